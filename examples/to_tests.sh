@@ -32,6 +32,21 @@ commands() {
     echo '];'
 }
 
+# the outputs of FILES.. whose words begin with the name of a command that takes a setting, or with none of these
+variants=' (variant|run|project) '
+of_variants() {
+    local output
+    for output in "$@"; do
+        [[ " $(cat "${output%.*}.words") " =~ $variants ]] && echo "$output"
+    done
+}
+of_families() {
+    local output
+    for output in "$@"; do
+        [[ " $(cat "${output%.*}.words") " =~ $variants ]] || echo "$output"
+    done
+}
+
 cd "$here"
 files=(*.c refused/*.c {,refused/}families/*.{c,json,certificate})
 # the tests know each file by its name alone
@@ -51,7 +66,12 @@ twice=$(basename -a "${files[@]}" {,refused/}{,families/}*.expected families/*.h
     commands PROGRAMS *.expected refused/*.expected
     echo
     echo '/// Those on families.'
-    commands FAMILIES families/*.expected families/*.html
+    # shellcheck disable=SC2046 # (no name has a space)
+    commands FAMILIES $(of_families families/*.expected families/*.html)
+    echo
+    echo '/// Those on one variant of a family.'
+    # shellcheck disable=SC2046
+    commands VARIANTS $(of_variants families/*.expected)
     echo
     echo '/// Those on families that are refused.'
     commands REFUSED_FAMILIES refused/families/*.expected

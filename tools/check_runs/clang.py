@@ -7,7 +7,7 @@ import subprocess
 from dataclasses import dataclass
 from pathlib import Path
 
-from .outcomes import RUNNING, Outcome, code_of, seen
+from .outcomes import MAIN, RUNNING, TYPE, Outcome, code_of, seen
 
 SECONDS = 20
 CHECKS = ["-fsanitize=signed-integer-overflow,integer-divide-by-zero", "-fno-sanitize-recover=all"]
@@ -57,8 +57,8 @@ __attribute__((constructor)) static void begin(int count, char **all)
 }
 """
 
-TYPE = r"(?:int32_t|signed\s+int|int\s+signed|signed|int)"
 DECLARATION = re.compile(rf"\s*(?:static\s+)?(?:const\s+{TYPE}|{TYPE}\s+const|{TYPE})\s+([^()]+)", re.DOTALL)
+PROTOTYPE = re.compile(rf"\b({TYPE}|void)\s+(\w+)\s*\(\s*(?:void)?\s*\)\s*;")
 ENUMERATION = re.compile(r"\s*enum\s*\{([^{}]*)\}\s*", re.DOTALL)
 DEFINITION = re.compile(r"^[ \t]*#[ \t]*define[ \t]+(\w+)", re.MULTILINE)
 
@@ -75,7 +75,7 @@ def named(listed: str) -> list[str]:
 def declared(text: str, preprocessed: str) -> tuple[list[str], list[str]]:
     """The variables and constants of a text, of which the preprocessor keeps its definitions too: what its declarations before `main` make;
     and those that `enum` and `#define` make, which are no objects. A macro of a header is none of them."""
-    before = re.split(rf"{TYPE}\s+main\s*\(", re.sub(r"^#.*", "", preprocessed, flags=re.MULTILINE))[0]
+    before = MAIN.split(re.sub(r"^#.*", "", preprocessed, flags=re.MULTILINE))[0]
     standing = set(DEFINITION.findall(preprocessed))
     names, no_objects = [], [it for it in dict.fromkeys(DEFINITION.findall(code_of(text))) if it in standing]
     for piece in before.split(";"):
@@ -84,6 +84,14 @@ def declared(text: str, preprocessed: str) -> tuple[list[str], list[str]]:
         elif it := ENUMERATION.fullmatch(piece):
             no_objects += named(it[1])
     return names, no_objects
+
+
+def outside(preprocessed: str) -> str:
+    """Definitions of the functions that a text declares: each takes the next input, or does nothing. So no text may drop the value of one
+    that has a value, since famlint takes no input for it."""
+    made = {name: kind for kind, name in PROTOTYPE.findall(preprocessed) if name != "input"}
+    bodies = {name: "{ }" if kind == "void" else "{ return input(); }" for name, kind in made.items()}
+    return "int input(void);\n" + "".join(f"{made[name]} {name}(void) {body}\n" for name, body in bodies.items())
 
 
 @dataclass(frozen=True)
@@ -128,14 +136,15 @@ class Clang:
         given = ["-w", "-std=c11", *(f"-D{macro}={value}" for macro, value in macros.items())]
         for header, word in (("assert.h", "assert"), ("stdint.h", "int32_t")):
             given += ["-include", header] if re.search(rf"\b{word}\b", text) else []
-        names, no_objects = declared(text, self.called(*given, "-E", "-P", "-dD", f"{name}.c"))
+        preprocessed = self.called(*given, "-E", "-P", "-dD", f"{name}.c")
+        names, no_objects = declared(text, preprocessed)
         no_objects += features
         objects = "".join(f"static const int check_runs_{it} = {it};\n" for it in no_objects)
         places = [*names, *(f"check_runs_{it}" for it in no_objects)]
         listed = "".join(f'"{it}", ' for it in names + no_objects), "".join(f"&{it}, " for it in places)
         wrong = "".join(f'#if !({it})\n#error "a constraint is false"\n#endif\n' for it in constraints)
         (self.folder / f"{name}-{mode}.c").write_text(
-            f'{wrong}#include "{name}.c"\n{objects}'
+            f'{wrong}#include "{name}.c"\n{objects}{outside(preprocessed)}'
             f"const char *const check_runs_names[] = {{{listed[0]}0}};\n"
             f"const int *const check_runs_places[] = {{{listed[1]}0}};\n")
         # (hidden, so that a variable with the name of a function of the C library does not take its place)

@@ -1,5 +1,6 @@
 """Makes families at random, by a seed, within the C that famlint reads: groups, loops, assertions, the short forms of assignments,
-constants, and number features as values, in which overflows, zero divisors and failed assertions do occur."""
+constants, number features as values, functions outside, and variables of `main`, in which overflows, zero divisors and failed assertions do
+occur."""
 from __future__ import annotations
 
 import json
@@ -13,6 +14,8 @@ from .outcomes import code_of
 SWITCHES = ("FAST", "SAFE", "LOG")
 CONSTANTS = ("BASE", "STEP", "TOP", "LAST")
 NAMES = ("level", "count", "load", "rate", "head", "limit", "phase", "gain")
+LOCALS = ("part", "rest", "share", "half", "odd")
+FUNCTIONS = ("sample", "reading")
 TYPES = ("int", "int", "int", "int", "signed", "signed int", "int signed", "int32_t")
 # The least values of number features: mostly about 0, so that divisors by them may be 0, and the ends of what a model takes.
 LOWS = (-2, -2, 0, 0, 1, 1, -7, 1048560, -1048576)
@@ -30,8 +33,8 @@ def laid_out(lines: Iterable[str]) -> Iterator[str]:
 
 class Maker:
     """A family in the making. `free` are the variables that every configuration declares, `some` those of one switch each, `constants`
-    what every configuration declares by `const`, `enum` or `#define`, with the number features that stand in the code, and `other` the
-    constants of one switch each."""
+    what every configuration declares by `const`, `enum` or `#define`, with the number features that stand in the code, `other` the
+    constants of one switch each, `functions` the functions outside with a value, and `locals` names for variables of `main`."""
 
     def __init__(self, rng: random.Random):
         self.rng = rng
@@ -42,6 +45,8 @@ class Maker:
         self.some: dict[str, str] = {}
         self.constants: list[str] = []
         self.other: dict[str, str] = {}
+        self.functions = ["input"]
+        self.locals = self.rng.sample(LOCALS, self.rng.randint(0, len(LOCALS)))
         self.declarations: list[str] = []
         self.declare()
 
@@ -168,9 +173,37 @@ class Maker:
         self.counters = ["i", "j"]
         self.declarations.append("static int i, j;")
         if rng.random() < 0.4:
+            self.declare_functions()
+        if rng.random() < 0.4:
             self.declarations.insert(0, rng.choice(("extern int input(void);", "#include <assert.h>", "int input();")))
 
+    def declare_functions(self) -> None:
+        """Some functions outside with a value, and perhaps `note` without one."""
+        rng = self.rng
+        names = rng.sample(FUNCTIONS, rng.randint(1, len(FUNCTIONS)))
+        self.functions += names
+        for name in names:
+            self.declarations.insert(0, f"{rng.choice(('', 'extern '))}{rng.choice(TYPES)} {name}({rng.choice(('void', ''))});")
+        if rng.random() < 0.5:
+            self.functions.append("note")
+            self.declarations.insert(0, rng.choice(("void note(void);", "extern void note();")))
+
     # ---- the statements
+
+    def taken(self) -> str:
+        """A call whose value is an input."""
+        return f"{self.rng.choice([it for it in self.functions if it != 'note'])}()"
+
+    def local(self, scope: list[str]) -> tuple[list[str], list[str]]:
+        """A declaration in a list of `main`, and the variables that what follows it there may change. Without an initialiser a value would be
+        any, and clang need not take it from the inputs."""
+        rng = self.rng
+        of = Expressions(rng, scope + self.counters + self.constants)
+        names = [self.locals.pop() for _ in range(min(len(self.locals), rng.choice((1, 1, 2))))]
+        listed = ", ".join(f"{name} = {self.taken() if rng.random() < 0.3 else of.value(rng.choice((0, 1, 2)))}" for name in names)
+        if rng.random() < 0.25:
+            return [f"{rng.choice(('const int', 'int const', 'const signed'))} {listed};"], []
+        return [f"{rng.choice(TYPES)} {listed};"], names
 
     def simple(self, scope: list[str]) -> str:
         """A statement that holds no other."""
@@ -181,7 +214,7 @@ class Maker:
         if kind == "set":
             return f"{name} = {of.value(rng.choice((1, 2, 3)))};"
         if kind == "take":
-            return f"{name} = input();"
+            return f"{name} = {self.taken()};"
         if kind == "update":
             operator = rng.choices(("+=", "-=", "*=", "/=", "%="), (4, 4, 4, 1, 1))[0]
             return f"{name} {operator} {of.value(rng.choice((0, 0, 1, 2)))};"
@@ -189,7 +222,7 @@ class Maker:
             return rng.choice((f"{name}++;", f"{name}--;", f"++{name};", f"--{name};"))
         if kind == "assert":
             return f"assert({of.likely(name)});"
-        return ";"
+        return rng.choice(("note();", "(void)note();")) if "note" in self.functions else ";"
 
     def loop(self, scope: list[str], depth: int) -> list[str]:
         """A loop, mostly one that a counter of its own ends."""
@@ -236,6 +269,10 @@ class Maker:
         rng = self.rng
         lines = []
         for _ in range(rng.randint(1, 4) if depth > 0 else rng.randint(0, 2)):
+            if self.locals and rng.random() < 0.15:
+                declaration, names = self.local(scope)
+                lines += declaration
+                scope = scope + names
             kind = rng.choices(("simple", "choice", "loop", "group", "block", "line"), (6, 3, 2, 3, 0.3, 0.7))[0] if depth > 0 else "simple"
             if kind == "simple":
                 lines.append(self.simple(scope) + rng.choice(("", "", "", " // a note; and more", " /* if (0) { */")))

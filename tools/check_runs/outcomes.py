@@ -104,14 +104,26 @@ def closing_line(text: str, statement: Outcome) -> int:
     return 0
 
 
+TYPE = r"(?:int32_t|signed\s+int|int\s+signed|signed|int)"
+MAIN = re.compile(rf"{TYPE}\s+main\s*\(")
+IN_MAIN = re.compile(rf"\b{TYPE}(?:\s+const)?\s+(\w[^;]*);")
+
+
+def declared_in_main(text: str) -> set[str]:
+    """The variables that `main` declares. A comma stands there in declarations alone."""
+    body = MAIN.split(code_of(text))[-1]
+    return {it.split("=")[0].strip() for declaration in IN_MAIN.findall(body) for it in declaration.split(",")}
+
+
 def is_same(text: str, famlint: Outcome, clang: Outcome) -> bool:
-    """Whether both tell of one run of this text. Of an assertion clang tells the line alone in which it ends, and where a run waits no
-    place."""
+    """Whether both tell of one run of this text. Of an assertion clang tells the line alone in which it ends, where a run waits no
+    place, and nothing of the variables of `main`."""
     if famlint.how != clang.how or famlint.how == OTHER:
         return False
     if famlint.how != STOPPED:
         # (famlint tells all names of the family: a variable or constant that this variant does not declare stays 0)
-        return all(famlint.values.get(name, 0) == clang.values.get(name, 0) for name in {*famlint.values, *clang.values})
+        names = {*famlint.values, *clang.values} - declared_in_main(text)
+        return all(famlint.values.get(name, 0) == clang.values.get(name, 0) for name in names)
     if famlint.kind != clang.kind:
         return False
     return closing_line(text, famlint) == clang.line if famlint.kind == ASSERTION else stands_in(text, famlint, clang)

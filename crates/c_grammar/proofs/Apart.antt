@@ -11,37 +11,48 @@ use Rattle.c_grammar.specs.declared.constants.NameKind.TheVariants as kinds
 use Rattle.c_grammar.specs.declared.items.Item.{Item}
 use Rattle.c_grammar.specs.declared.items.Sign.{Sign}
 use Rattle.c_grammar.specs.declared.items.Sign.TheVariants as signs
-use Rattle.c_grammar.specs.Grammar.{at, Prefix, Positive, Negative, Inverse, prefix_sign, Expresses, number, name, group, prefix, loose, binary, Update, Sum, Difference, Product, Quotient, Remainder, update_sign, Count, Raise, Lower, count_sign, Shape, Writes, none, more, choice, ends, otherwise, elif, assign, Callable, of_input, of_function, input, call, void_call, update, count, prefix_count, assert, skip, block, while, if_then, if_else, Optional, absent, present, Typed, int, int32, signed, signed_int, int_signed, Qualifier, Unqualified, Constant, Counted, behind, Qualified, unqualified, const_before, const_behind, Begins, only_type, then_type, enumeration, Declarator, bare, positive, negative, counted, Ending, variables_end, constants_end, enumeration_end, comma_end, Defines, defined, negative_defined, enclosed, negative_enclosed, Part, Outer, Vars, Later, Declares, nothing, variables, prototype, void_prototype, definition, section, last_var, next_var, end_part, else_part, elif_part, Returns, no_return, return, Gap, Empty, no_more, empty_section, empty_end, empty_else, empty_elif, Body, body, Main, main, file, is_group}
-use Rattle.c_grammar.specs.Constants.{kind_behind_name, kind_behind, is_joining, IsBetween, AreApart, DirectivesStandApart}
+use Rattle.c_grammar.specs.Grammar.{at, Prefix, Positive, Negative, Inverse, prefix_sign, Expresses, number, name, group, prefix, loose, binary, Update, Sum, Difference, Product, Quotient, Remainder, update_sign, Count, Raise, Lower, count_sign, LocalDeclarator, uninitialised, initialised, from_call, Shape, Listed, Stated, Chained, Locals, Writes, none, more, choice, local, last_local, next_local, ends, otherwise, elif, assign, Callable, of_input, of_function, input, call, void_call, update, count, prefix_count, assert, skip, block, while, if_then, if_else, Optional, absent, present, Typed, int, int32, signed, signed_int, int_signed, Qualifier, Unqualified, Constant, Counted, behind, Qualified, unqualified, const_before, const_behind, Begins, only_type, then_type, enumeration, Declarator, bare, positive, negative, counted, Ending, variables_end, constants_end, enumeration_end, comma_end, Defines, defined, negative_defined, enclosed, negative_enclosed, Part, Outer, Vars, Later, Declares, nothing, variables, prototype, void_prototype, definition, section, last_var, next_var, end_part, else_part, elif_part, Returns, no_return, return, Gap, Empty, no_more, empty_section, empty_end, empty_else, empty_elif, Body, body, Main, main, file, is_group}
+use Rattle.c_grammar.specs.Constants.{kind_behind_name, AreApart, DirectivesStandApart}
 
 -- text in front of which directives may stand: where what follows it is apart, the whole is
 abbrev Leaves : List Item → Type 0
 Leaves ts = (w : List Item) → AreApart kinds.Variable false w → AreApart kinds.Variable false (ts ++ w)
 
--- an expression, before a token that is no directive
-abbrev Runs : List Item → Type 0
-Runs ts = (joined : Bool) (x : Item) (w : List Item) → is_group x.sign ≡ false → ((before : Bool) → AreApart kinds.Variable before (x ∷ w)) → AreApart kinds.Variable joined (ts ++ x ∷ w)
+-- what the names of declarators are
+abbrev names_of : Qualifier → NameKind
+names_of Unqualified = kinds.Variable
+names_of Constant = kinds.Constant
+names_of (Counted last) = kinds.Constant
 
--- a token that is no directive is apart whatever stands before it
-free : (x : Item) (w : List Item) (kind : NameKind) (joined : Bool) → is_group x.sign ≡ false → AreApart (kind_behind kind x.sign) (is_joining x.sign) w → AreApart kind joined (x ∷ w)
-free x w kind joined g h = (subst (λ (b : Bool). IsBetween b kind joined) (sym g) tt, h)
+names_stay : (kind : Qualifier) → kind_behind_name (names_of kind) ≡ names_of kind
+names_stay Unqualified = refl
+names_stay Constant = refl
+names_stay (Counted last) = refl
 
-prefix_apart : (u : Prefix) (p : Place) (joined : Bool) (w : List Item) → AreApart kinds.Variable false w → AreApart kinds.Variable joined (at p (prefix_sign u) ∷ w)
-prefix_apart Positive p joined w h = (tt, h)
-prefix_apart Negative p joined w h = (tt, h)
-prefix_apart Inverse p joined w h = (tt, h)
+-- an expression, before a token that is no directive, in a declaration that goes on or in a statement
+abbrev Runs : Qualifier → List Item → Type 0
+Runs kind ts = (joined : Bool) (x : Item) (w : List Item) → is_group x.sign ≡ false → ((before : Bool) → AreApart (names_of kind) before (x ∷ w)) → AreApart (names_of kind) joined (ts ++ x ∷ w)
 
-expr_runs : {k : ℕ} {ts : List Item} {e : Term} → Expresses k ts e → Runs ts
-expr_runs (number p n) = λ joined x w g h. (tt, h false)
-expr_runs (name p v) = λ joined x w g h. (tt, h true)
-expr_runs (group p q {ts} s) = λ joined x w g h. (tt, subst (AreApart kinds.Variable false) (sym (append_assoc ts (at q signs.Close ∷ []) (x ∷ w))) (expr_runs s false (at q signs.Close) (x ∷ w) refl (λ b. (tt, h false))))
-expr_runs (prefix p u {ts} s) = λ joined x w g h. prefix_apart u p joined (ts ++ x ∷ w) (expr_runs s false x w g h)
-expr_runs (loose s) = expr_runs s
-expr_runs (binary p op {ts} {us} s t) = λ joined x w g h. subst (AreApart kinds.Variable joined) (sym (append_assoc ts (at p (signs.Oper op) ∷ us) (x ∷ w))) (expr_runs s joined (at p (signs.Oper op)) (us ++ x ∷ w) refl (λ b. (tt, expr_runs t false x w g h)))
+-- a name, of a declarator or of a statement
+name_apart : (kind : Qualifier) (p : Place) (x : ℕ) (joined : Bool) (w : List Item) → AreApart (names_of kind) true w → AreApart (names_of kind) joined (at p (signs.Name x) ∷ w)
+name_apart kind p x joined w h = (tt, subst (λ (c : NameKind). AreApart c true w) (sym (names_stay kind)) h)
 
--- an expression and the token behind it
+prefix_apart : (kind : Qualifier) (u : Prefix) (p : Place) (joined : Bool) (w : List Item) → AreApart (names_of kind) false w → AreApart (names_of kind) joined (at p (prefix_sign u) ∷ w)
+prefix_apart kind Positive p joined w h = (tt, h)
+prefix_apart kind Negative p joined w h = (tt, h)
+prefix_apart kind Inverse p joined w h = (tt, h)
+
+expr_runs : {k : ℕ} {ts : List Item} {e : Term} (kind : Qualifier) → Expresses k ts e → Runs kind ts
+expr_runs kind (number p n) = λ joined x w g h. (tt, h false)
+expr_runs kind (name p v) = λ joined x w g h. name_apart kind p v joined (x ∷ w) (h true)
+expr_runs kind (group p q {ts} s) = λ joined x w g h. (tt, subst (AreApart (names_of kind) false) (sym (append_assoc ts (at q signs.Close ∷ []) (x ∷ w))) (expr_runs kind s false (at q signs.Close) (x ∷ w) refl (λ b. (tt, h false))))
+expr_runs kind (prefix p u {ts} s) = λ joined x w g h. prefix_apart kind u p joined (ts ++ x ∷ w) (expr_runs kind s false x w g h)
+expr_runs kind (loose s) = expr_runs kind s
+expr_runs kind (binary p op {ts} {us} s t) = λ joined x w g h. subst (AreApart (names_of kind) joined) (sym (append_assoc ts (at p (signs.Oper op) ∷ us) (x ∷ w))) (expr_runs kind s joined (at p (signs.Oper op)) (us ++ x ∷ w) refl (λ b. (tt, expr_runs kind t false x w g h)))
+
+-- an expression of a statement and the token behind it
 closed : {ts : List Item} {e : Term} (joined : Bool) (s : Expresses 6 ts e) (x : Item) (us w : List Item) → is_group x.sign ≡ false → ((before : Bool) → AreApart kinds.Variable before (x ∷ (us ++ w))) → AreApart kinds.Variable joined ((ts ++ x ∷ us) ++ w)
-closed {ts} joined s x us w g h = subst (AreApart kinds.Variable joined) (sym (append_assoc ts (x ∷ us) w)) (expr_runs s joined x (us ++ w) g h)
+closed {ts} joined s x us w g h = subst (AreApart kinds.Variable joined) (sym (append_assoc ts (x ∷ us) w)) (expr_runs Unqualified s joined x (us ++ w) g h)
 
 update_apart : (u : Update) (q : Place) (w : List Item) → AreApart kinds.Variable false w → AreApart kinds.Variable true (at q (update_sign u) ∷ w)
 update_apart Sum q w h = (tt, h)
@@ -58,26 +69,61 @@ prefix_count_apart : (u : Count) (p q r : Place) (x : ℕ) (w : List Item) → A
 prefix_count_apart Raise p q r x w h = (tt, (tt, (tt, h)))
 prefix_count_apart Lower p q r x w h = (tt, (tt, (tt, h)))
 
-function_apart : {f : Sign} (p : Place) (joined : Bool) (w : List Item) → Callable f → AreApart kinds.Variable false w → AreApart kinds.Variable joined (at p f ∷ w)
-function_apart p joined w of_input h = (tt, h)
-function_apart p joined w (of_function k) h = (tt, h)
+function_apart : {f : Sign} (kind : NameKind) (p : Place) (joined : Bool) (w : List Item) → Callable f → AreApart kind false w → AreApart kind joined (at p f ∷ w)
+function_apart kind p joined w of_input h = (tt, h)
+function_apart kind p joined w (of_function k) h = (tt, h)
 
 both : (ts us : List Item) → Leaves ts → Leaves us → Leaves (ts ++ us)
 both ts us a b w h = subst (AreApart kinds.Variable false) (sym (append_assoc ts us w)) (a (us ++ w) (b w h))
 
+-- ---- declarations in `main`
+
+type_apart : {us : List Item} (kind : NameKind) → Typed us → (w : List Item) → AreApart kind false w → AreApart kind false (us ++ w)
+type_apart kind (int p) w h = (tt, h)
+type_apart kind (int32 p) w h = (tt, h)
+type_apart kind (signed p) w h = (tt, h)
+type_apart kind (signed_int p q) w h = (tt, (tt, h))
+type_apart kind (int_signed p q) w h = (tt, (tt, h))
+
+qualified_apart : {us : List Item} {kind : Qualifier} → Qualified kind us → (w : List Item) → AreApart (names_of kind) false w → AreApart kinds.Variable false (us ++ w)
+qualified_apart (unqualified y) w h = type_apart kinds.Variable y w h
+qualified_apart (const_before p y) w h = (tt, type_apart kinds.Constant y w h)
+qualified_apart (const_behind p {us} y) w h = subst (AreApart kinds.Variable false) (sym (append_assoc us (at p signs.Const ∷ []) w)) (type_apart kinds.Variable y (at p signs.Const ∷ w) (tt, h))
+
+-- a declarator, before what ends it
+local_apart : {ts : List Item} {c : Code} {kind : Qualifier} → LocalDeclarator kind ts c → Runs kind ts
+local_apart (uninitialised p x) = λ joined y w g h. name_apart Unqualified p x joined (y ∷ w) (h true)
+local_apart (initialised p q x {kind} {ts} e) = λ joined y w g h. name_apart kind p x joined (at q signs.Equals ∷ (ts ++ y ∷ w)) (tt, expr_runs kind e true y w g h)
+local_apart (from_call p q r s t x {kind} {f} g) = λ joined y w i h.
+    name_apart kind p x joined (at q signs.Equals ∷ at r f ∷ at s signs.Open ∷ at t signs.Close ∷ y ∷ w) (tt, function_apart (names_of kind) r true (at s signs.Open ∷ at t signs.Close ∷ y ∷ w) g (tt, (tt, h false)))
+
 -- ---- statements
 
-code_apart : {s : Shape} {ts : List Item} {c : Code} → Writes s ts c → Leaves ts
+-- the declarators of a declaration stand where its names are of its kind
+abbrev ShapeLeaves : Shape → List Item → Type 0
+ShapeLeaves Listed ts = Leaves ts
+ShapeLeaves (Stated b) ts = Leaves ts
+ShapeLeaves Chained ts = Leaves ts
+ShapeLeaves (Locals kind) ts = (w : List Item) → AreApart kinds.Variable false w → AreApart (names_of kind) false (ts ++ w)
+
+code_apart : {s : Shape} {ts : List Item} {c : Code} → Writes s ts c → ShapeLeaves s ts
 code_apart none = λ w h. h
 code_apart (more {b} {ts} {us} s l) = both ts us (code_apart s) (code_apart l)
 code_apart (choice p n {ts} {us} {vs} s t l) = λ w h. ((refl, refl), both ts (us ++ vs) (code_apart s) (both us vs (code_apart t) (code_apart l)) w h)
+code_apart (local {ts} {us} {vs} q v l) = λ w h.
+    let re : (ts ++ (us ++ vs)) ++ w ≡ ts ++ (us ++ (vs ++ w)) = simp append_assoc in
+    subst (AreApart kinds.Variable false) (sym re) (qualified_apart q (us ++ (vs ++ w)) (code_apart v (vs ++ w) (code_apart l w h)))
+code_apart (last_local p {ts} {kind = kind} d) = λ w h.
+    subst (AreApart (names_of kind) false) (sym (append_assoc ts (at p signs.Semicolon ∷ []) w)) (local_apart d false (at p signs.Semicolon) w refl (λ b. (tt, h)))
+code_apart (next_local p {ts} {us} {kind = kind} d v) = λ w h.
+    subst (AreApart (names_of kind) false) (sym (append_assoc ts (at p signs.Comma ∷ us) w)) (local_apart d false (at p signs.Comma) (us ++ w) refl (λ b. (tt, code_apart v w h)))
 code_apart (ends p) = λ w h. ((refl, refl), h)
 code_apart (otherwise p q {ts} s) = λ w h. ((refl, refl), both ts (at q signs.GroupEnd ∷ []) (code_apart s) (λ v i. ((refl, refl), i)) w h)
 code_apart (elif p n {ts} {us} s t) = λ w h. ((refl, refl), both ts us (code_apart s) (code_apart t) w h)
 code_apart (assign p q r x {ts} e) = λ w h. (tt, (tt, closed true e (at r signs.Semicolon) [] w refl (λ b. (tt, h))))
-code_apart (input p q r s t u x g) = λ w h. (tt, (tt, function_apart r true (at s signs.Open ∷ at t signs.Close ∷ at u signs.Semicolon ∷ w) g (tt, (tt, (tt, h)))))
-code_apart (call p q r s g) = λ w h. function_apart p false (at q signs.Open ∷ at r signs.Close ∷ at s signs.Semicolon ∷ w) g (tt, (tt, (tt, h)))
-code_apart (void_call p q r s t u v g) = λ w h. (tt, (tt, (tt, function_apart s false (at t signs.Open ∷ at u signs.Close ∷ at v signs.Semicolon ∷ w) g (tt, (tt, (tt, h))))))
+code_apart (input p q r s t u x g) = λ w h. (tt, (tt, function_apart kinds.Variable r true (at s signs.Open ∷ at t signs.Close ∷ at u signs.Semicolon ∷ w) g (tt, (tt, (tt, h)))))
+code_apart (call p q r s g) = λ w h. function_apart kinds.Variable p false (at q signs.Open ∷ at r signs.Close ∷ at s signs.Semicolon ∷ w) g (tt, (tt, (tt, h)))
+code_apart (void_call p q r s t u v g) = λ w h. (tt, (tt, (tt, function_apart kinds.Variable s false (at t signs.Open ∷ at u signs.Close ∷ at v signs.Semicolon ∷ w) g (tt, (tt, (tt, h))))))
 code_apart (update p q r x u {ts} e) = λ w h. (tt, update_apart u q ((ts ++ at r signs.Semicolon ∷ []) ++ w) (closed false e (at r signs.Semicolon) [] w refl (λ b. (tt, h))))
 code_apart (count p q r x u) = λ w h. (tt, count_apart u q r true w h)
 code_apart (prefix_count p q r x u) = λ w h. prefix_count_apart u p q r x w h
@@ -91,33 +137,10 @@ code_apart (if_else p q r z {b} {ts} {us} {vs} e s t) = λ w h.
 
 -- ---- declarations
 
-type_apart : {us : List Item} (kind : NameKind) → Typed us → (w : List Item) → AreApart kind false w → AreApart kind false (us ++ w)
-type_apart kind (int p) w h = (tt, h)
-type_apart kind (int32 p) w h = (tt, h)
-type_apart kind (signed p) w h = (tt, h)
-type_apart kind (signed_int p q) w h = (tt, (tt, h))
-type_apart kind (int_signed p q) w h = (tt, (tt, h))
-
--- what the names of declarators are
-abbrev names_of : Qualifier → NameKind
-names_of Unqualified = kinds.Variable
-names_of Constant = kinds.Constant
-names_of (Counted last) = kinds.Constant
-
 names_behind : (kind : Qualifier) (n : ℤ) → names_of (behind kind n) ≡ names_of kind
 names_behind Unqualified n = refl
 names_behind Constant n = refl
 names_behind (Counted last) n = refl
-
-names_stay : (kind : Qualifier) → kind_behind_name (names_of kind) ≡ names_of kind
-names_stay Unqualified = refl
-names_stay Constant = refl
-names_stay (Counted last) = refl
-
-qualified_apart : {us : List Item} {kind : Qualifier} → Qualified kind us → (w : List Item) → AreApart (names_of kind) false w → AreApart kinds.Variable false (us ++ w)
-qualified_apart (unqualified y) w h = type_apart kinds.Variable y w h
-qualified_apart (const_before p y) w h = (tt, type_apart kinds.Constant y w h)
-qualified_apart (const_behind p {us} y) w h = subst (AreApart kinds.Variable false) (sym (append_assoc us (at p signs.Const ∷ []) w)) (type_apart kinds.Variable y (at p signs.Const ∷ w) (tt, h))
 
 static_apart : {us : List Item} {kind : Qualifier} → Begins signs.Static kind us → (w : List Item) → AreApart (names_of kind) false w → AreApart kinds.Variable false (us ++ w)
 static_apart (only_type s y) w h = qualified_apart y w h
@@ -138,16 +161,12 @@ extern_word_apart : {us : List Item} → Optional signs.Extern us → Leaves us
 extern_word_apart (absent s) w h = h
 extern_word_apart (present p s) w h = (tt, h)
 
--- the name of a declarator
-name_apart : (kind : Qualifier) (p : Place) (x : ℕ) (w : List Item) → AreApart (names_of kind) true w → AreApart (names_of kind) false (at p (signs.Name x) ∷ w)
-name_apart kind p x w h = (tt, subst (λ (c : NameKind). AreApart c true w) (sym (names_stay kind)) h)
-
 -- a declarator, before what follows it
 declarator_apart : {us : List Item} {x : ℕ} {n : ℤ} {kind : Qualifier} → Declarator kind us x n → (w : List Item) → ((before : Bool) → AreApart (names_of kind) before w) → AreApart (names_of kind) false (us ++ w)
-declarator_apart (bare p x) w h = name_apart Unqualified p x w (h true)
-declarator_apart (positive p q r x n {kind}) w h = name_apart kind p x (at q signs.Equals ∷ at r (signs.Number n) ∷ w) (tt, (tt, h false))
-declarator_apart (negative p q r s x n {kind}) w h = name_apart kind p x (at q signs.Equals ∷ at r (signs.Oper Sub) ∷ at s (signs.Number n) ∷ w) (tt, (tt, (tt, h false)))
-declarator_apart (counted p x last lt) w h = name_apart (Counted last) p x w (h true)
+declarator_apart (bare p x) w h = name_apart Unqualified p x false w (h true)
+declarator_apart (positive p q r x n {kind}) w h = name_apart kind p x false (at q signs.Equals ∷ at r (signs.Number n) ∷ w) (tt, (tt, h false))
+declarator_apart (negative p q r s x n {kind}) w h = name_apart kind p x false (at q signs.Equals ∷ at r (signs.Oper Sub) ∷ at s (signs.Number n) ∷ w) (tt, (tt, (tt, h false)))
+declarator_apart (counted p x last lt) w h = name_apart (Counted last) p x false w (h true)
 
 ending_apart : {us : List Item} {kind : Qualifier} → Ending kind us → (w : List Item) → AreApart kinds.Variable false w → (before : Bool) → AreApart (names_of kind) before (us ++ w)
 ending_apart (variables_end p) w h before = (tt, h)
@@ -174,7 +193,7 @@ declared_apart (variables gs {us} {vs} {ws} {kind = kind} o v d) = λ w h.
 declared_apart (prototype q r s t gs {f} {us} {vs} {ws} o g v d) = λ w h.
     let rest : List Item = vs ++ at s signs.Close ∷ at t signs.Semicolon ∷ (ws ++ w) in
     let re : (us ++ at q f ∷ at r signs.Open ∷ (vs ++ at s signs.Close ∷ at t signs.Semicolon ∷ ws)) ++ w ≡ us ++ at q f ∷ at r signs.Open ∷ rest = simp append_assoc in
-    subst (AreApart kinds.Variable false) (sym re) (extern_apart o (at q f ∷ at r signs.Open ∷ rest) (function_apart q false (at r signs.Open ∷ rest) g (tt, void_apart v (at s signs.Close ∷ at t signs.Semicolon ∷ (ws ++ w)) (λ b. (tt, (tt, declared_apart d w h))))))
+    subst (AreApart kinds.Variable false) (sym re) (extern_apart o (at q f ∷ at r signs.Open ∷ rest) (function_apart kinds.Variable q false (at r signs.Open ∷ rest) g (tt, void_apart v (at s signs.Close ∷ at t signs.Semicolon ∷ (ws ++ w)) (λ b. (tt, (tt, declared_apart d w h))))))
 declared_apart (void_prototype p q r s t k gs {us} {vs} {ws} o v d) = λ w h.
     let rest : List Item = vs ++ at s signs.Close ∷ at t signs.Semicolon ∷ (ws ++ w) in
     let head : List Item = at p signs.Void ∷ at q (signs.Function k) ∷ at r signs.Open ∷ rest in

@@ -1,5 +1,5 @@
 -- Whatever is open can be closed.
-use Rattle.std.proofs.Common.{◌≡◌, ℕ, ℤ, pos, neg_ℤ, suc, List, [], ◌∷◌, Ok, refl, ◌∙◌}
+use Rattle.std.proofs.Common.{◌≡◌, ℕ, ℤ, pos, neg_ℤ, suc, List, [], ◌∷◌, Ok, refl, sym, ◌∙◌}
 use Rattle.fam_outer.specs.declared.faults.Place.{Place}
 use Rattle.c_tree.specs.declared.lists.Declared.{Declared}
 use Rattle.c_tree.specs.Tree.{Term, Var, Binary, Code, Done, Assign, Assert, If, While, Block, Skip, Cond, followed}
@@ -7,8 +7,8 @@ use Rattle.c_grammar.specs.declared.items.Sign.TheVariants as signs
 use Rattle.c_grammar.specs.declared.items.Item.{Item}
 use Rattle.c_grammar.specs.Grammar.{at, tighter, applied, updated, changed_by_one, Qualifier, Unqualified, Constant, Counted, uncounted, File, file_of}
 use Rattle.c_grammar.specs.Ahead.{Loose, NoElse}
-use Rattle.c_grammar.specs.Machine.{Tailing, Another, Final, Frame, Paren, Pre, Left, Stack, Top, Braces, Yes, No, ThenOf, ElseOf, LoopOf, Use, ToAssign, ToUpdate, ToAssert, ToChoose, ToLoop, Sections, Outermost, InPart, InLast, Aim, ToPrototype, ToMain, ReadingState, Outside, AfterStatic, AfterExtern, AfterConst, AfterEnum, AfterVoidType, AfterType, NoWord, StaticWord, ExternWord, ConstWord, Declaring, Bare, Starting, Negating, Started, Listing, Enumerated, AfterDefine, Defining, NegativeDefining, Enclosing, NegativeEnclosing, Enclosed, Parameters, InParameters, AfterVoid, AfterParameters, Ready, Ended, Wants, Has, Counting, Named, Opens, VoidComes, VoidCloses, CallComes, CallOpens, CallCloses, Finishing, Returning, Returned, Closing, Over, with_declared, linked, run}
-use Rattle.c_grammar.proofs.Complete.{pre_absorbs, left_absorbs, loop_absorbs, else_absorbs, then_absorbs}
+use Rattle.c_grammar.specs.Machine.{Tailing, Another, Final, Frame, Paren, Pre, Left, Stack, Top, Braces, Yes, No, ThenOf, ElseOf, LoopOf, Use, ToAssign, ToInitialise, ToUpdate, ToAssert, ToChoose, ToLoop, Pending, OfStatement, OfLocal, Sections, Outermost, InPart, InLast, Aim, ToPrototype, ToMain, ReadingState, Outside, AfterStatic, AfterExtern, AfterConst, AfterEnum, AfterVoidType, AfterType, NoWord, StaticWord, ExternWord, ConstWord, Declaring, Bare, Starting, Negating, Started, Listing, Enumerated, AfterDefine, Defining, NegativeDefining, Enclosing, NegativeEnclosing, Enclosed, Parameters, InParameters, AfterVoid, AfterParameters, Ready, LocalConst, LocalType, NextLocal, LocalNamed, Ended, Wants, Has, Counting, Named, Opens, VoidComes, VoidCloses, CallComes, CallOpens, CallCloses, Finishing, Returning, Returned, Closing, Over, with_declared, folded, linked, run}
+use Rattle.c_grammar.proofs.Complete.{pre_absorbs, left_absorbs, loop_absorbs, else_absorbs, then_absorbs, folds}
 
 pub nowhere : Place
 nowhere = record { line = 0; column = 0 }
@@ -42,6 +42,15 @@ closes (ThenOf p e outer) c = let h = closes outer (If p e c Done Done) in (h.0,
 closes (ElseOf p e first outer) c = let h = closes outer (If p e first c Done) in (h.0, else_absorbs p e first outer c (closers outer) ∙ h.1)
 closes (LoopOf p e outer) c = let h = closes outer (While p e c Done) in (h.0, loop_absorbs p e outer c (closers outer) ∙ h.1)
 
+-- behind a declaration
+closes_list : (outer : Stack) (c : Code) → (made : File) × (run (Ready (folded outer c)) (closers outer) ≡ Ok made)
+closes_list outer c = let h = closes outer c in (h.0, sym (folds outer c (closers outer) (closers_no_else outer)) ∙ h.1)
+
+closes_pending : (made : Pending) → (tail : List Item) × (f : File) × (run (Finishing made) (at nowhere signs.Semicolon ∷ tail) ≡ Ok f)
+unfolding run
+closes_pending (OfStatement outer c) = let h = closes outer c in (closers outer, h.0, h.1)
+closes_pending (OfLocal kind outer c) = let h = closes_list outer c in (closers outer, h.0, h.1)
+
 record CanEnd (state : ReadingState) : Type 0 where
   pub tail : List Item
   pub made : File
@@ -51,6 +60,7 @@ record CanEnd (state : ReadingState) : Type 0 where
 ends_use : (u : Use) (e : Term) → CanEnd (Has [] u e)
 unfolding run
 ends_use (ToAssign p x outer) e = let h = closes outer (Assign p x e Done) in record { tail = at nowhere signs.Semicolon ∷ closers outer; made = h.0; reads = h.1; tight = λ k. tt }
+ends_use (ToInitialise kind p x outer) e = let h = closes_list outer (Assign p x e Done) in record { tail = at nowhere signs.Semicolon ∷ closers outer; made = h.0; reads = h.1; tight = λ k. tt }
 ends_use (ToUpdate p x u outer) e = let h = closes outer (updated p x u e) in record { tail = at nowhere signs.Semicolon ∷ closers outer; made = h.0; reads = h.1; tight = λ k. tt }
 ends_use (ToAssert p outer) e = let h = closes outer (Assert p e Done) in record { tail = at nowhere signs.Close ∷ at nowhere signs.Semicolon ∷ closers outer; made = h.0; reads = h.1; tight = λ k. tt }
 ends_use (ToChoose p outer) e = let h = closes (ThenOf p e outer) (Skip nowhere Done) in record { tail = at nowhere signs.Close ∷ at nowhere signs.Semicolon ∷ closers (ThenOf p e outer); made = h.0; reads = h.1; tight = λ k. tt }
@@ -66,6 +76,11 @@ ends_expr (Left op a ∷ fs) u e = let h = ends_expr fs u (Binary op a e) in rec
 -- the rest of a file from where a declaration may begin
 abbrev Rest : ReadingState → Type 0
 Rest state = (tail : List Item) × (made : File) × (run state tail ≡ Ok made)
+
+-- behind the name of a declarator in `main`
+after_name : (kind : Qualifier) (p : Place) (x : ℕ) (outer : Stack) → Rest (LocalNamed kind p x outer)
+unfolding run
+after_name kind p x outer = let h = closes_list outer (Assign p x (Var 0) Done) in (at nowhere signs.Equals ∷ at nowhere (signs.Name 0) ∷ at nowhere signs.Semicolon ∷ closers outer, h.0, h.1)
 
 after_declarations : (secs : Sections) (ds : List Declared) → Rest (Outside secs ds)
 unfolding run
@@ -120,6 +135,12 @@ completes (InParameters aim) = let h = after_parameters aim in (at nowhere signs
 completes (AfterVoid aim) = let h = after_parameters aim in (at nowhere signs.Close ∷ h.0, h.1, h.2)
 completes (AfterParameters aim) = after_parameters aim
 completes (Ready outer) = let h = closes outer (Skip nowhere Done) in (at nowhere signs.Semicolon ∷ closers outer, h.0, h.1)
+completes (LocalConst outer) = let h = after_name Constant nowhere 0 outer in (at nowhere signs.Int ∷ at nowhere (signs.Name 0) ∷ h.0, h.1, h.2)
+completes (LocalType Unqualified words outer) = let h = after_name Unqualified nowhere 0 outer in (at nowhere (signs.Name 0) ∷ h.0, h.1, h.2)
+completes (LocalType Constant words outer) = let h = after_name Constant nowhere 0 outer in (at nowhere (signs.Name 0) ∷ h.0, h.1, h.2)
+completes (LocalType (Counted last) words outer) = let h = after_name (Counted last) nowhere 0 outer in (at nowhere (signs.Name 0) ∷ h.0, h.1, h.2)
+completes (NextLocal kind outer) = let h = after_name kind nowhere 0 outer in (at nowhere (signs.Name 0) ∷ h.0, h.1, h.2)
+completes (LocalNamed kind p x outer) = after_name kind p x outer
 completes (Ended outer c) = let h = closes outer c in (closers outer, h.0, h.1)
 completes (Wants fs u) = let h = ends_expr fs u (Var 0) in (at nowhere (signs.Name 0) ∷ h.tail, h.made, h.reads)
 completes (Has fs u e) = let h = ends_expr fs u e in (h.tail, h.made, h.reads)
@@ -129,9 +150,9 @@ completes (Opens u) = let h = ends_use u (Var 0) in (at nowhere signs.Open ∷ a
 completes (VoidComes p outer) = let h = closes outer (Skip p Done) in (at nowhere signs.Void ∷ at nowhere signs.Close ∷ at nowhere signs.Input ∷ at nowhere signs.Open ∷ at nowhere signs.Close ∷ at nowhere signs.Semicolon ∷ closers outer, h.0, h.1)
 completes (VoidCloses p outer) = let h = closes outer (Skip p Done) in (at nowhere signs.Close ∷ at nowhere signs.Input ∷ at nowhere signs.Open ∷ at nowhere signs.Close ∷ at nowhere signs.Semicolon ∷ closers outer, h.0, h.1)
 completes (CallComes p outer) = let h = closes outer (Skip p Done) in (at nowhere signs.Input ∷ at nowhere signs.Open ∷ at nowhere signs.Close ∷ at nowhere signs.Semicolon ∷ closers outer, h.0, h.1)
-completes (CallOpens outer c) = let h = closes outer c in (at nowhere signs.Open ∷ at nowhere signs.Close ∷ at nowhere signs.Semicolon ∷ closers outer, h.0, h.1)
-completes (CallCloses outer c) = let h = closes outer c in (at nowhere signs.Close ∷ at nowhere signs.Semicolon ∷ closers outer, h.0, h.1)
-completes (Finishing outer c) = let h = closes outer c in (at nowhere signs.Semicolon ∷ closers outer, h.0, h.1)
+completes (CallOpens made) = let h = closes_pending made in (at nowhere signs.Open ∷ at nowhere signs.Close ∷ at nowhere signs.Semicolon ∷ h.0, h.1, h.2)
+completes (CallCloses made) = let h = closes_pending made in (at nowhere signs.Close ∷ at nowhere signs.Semicolon ∷ h.0, h.1, h.2)
+completes (Finishing made) = let h = closes_pending made in (at nowhere signs.Semicolon ∷ h.0, h.1, h.2)
 completes (Returning p ds made) = (at nowhere (signs.Number (pos 0)) ∷ at nowhere signs.Semicolon ∷ at nowhere signs.RightBrace ∷ [], file_of ds (followed made (Skip p Done)) nowhere, refl)
 completes (Returned ds made) = (at nowhere signs.Semicolon ∷ at nowhere signs.RightBrace ∷ [], file_of ds made nowhere, refl)
 completes (Closing ds made) = (at nowhere signs.RightBrace ∷ [], file_of ds made nowhere, refl)

@@ -1,13 +1,14 @@
 -- Whatever is open within the limits can be closed within them: the text that closes it opens nothing more, and has no
 -- operator.
 use Rattle.std.proofs.Common.{◌≡◌, ℕ, ℤ, pos, neg_ℤ, suc, ◌≤◌, List, [], ◌∷◌, Ok, refl, subst, ◌∙◌, arith}
+use Rattle.fam_outer.specs.declared.faults.Place.{Place}
 use Rattle.c_tree.specs.declared.lists.Declared.{Declared}
 use Rattle.c_tree.specs.Tree.{Term, Var, Binary, Code, Done, Assign, Assert, If, While, Block, Skip, Cond, followed}
 use Rattle.c_grammar.specs.declared.items.Sign.TheVariants as signs
 use Rattle.c_grammar.specs.declared.items.Item.{Item}
 use Rattle.c_grammar.specs.Grammar.{at, tighter, applied, updated, changed_by_one, Qualifier, Unqualified, Constant, Counted, uncounted, File, file_of}
 use Rattle.c_grammar.specs.Ahead.{Loose, NoElse}
-use Rattle.c_grammar.specs.Machine.{Tailing, Another, Final, Frame, Paren, Pre, Left, Stack, Top, Braces, Yes, No, ThenOf, ElseOf, LoopOf, Use, ToAssign, ToUpdate, ToAssert, ToChoose, ToLoop, Sections, Outermost, InPart, InLast, Aim, ToPrototype, ToMain, ReadingState, Outside, AfterStatic, AfterExtern, AfterConst, AfterEnum, AfterVoidType, AfterType, NoWord, StaticWord, ExternWord, ConstWord, Declaring, Bare, Starting, Negating, Started, Listing, Enumerated, AfterDefine, Defining, NegativeDefining, Enclosing, NegativeEnclosing, Enclosed, Parameters, InParameters, AfterVoid, AfterParameters, Ready, Ended, Wants, Has, Counting, Named, Opens, VoidComes, VoidCloses, CallComes, CallOpens, CallCloses, Finishing, Returning, Returned, Closing, Over, with_declared, linked}
+use Rattle.c_grammar.specs.Machine.{Tailing, Another, Final, Frame, Paren, Pre, Left, Stack, Top, Braces, Yes, No, ThenOf, ElseOf, LoopOf, Use, ToAssign, ToInitialise, ToUpdate, ToAssert, ToChoose, ToLoop, Pending, OfStatement, OfLocal, Sections, Outermost, InPart, InLast, Aim, ToPrototype, ToMain, ReadingState, Outside, AfterStatic, AfterExtern, AfterConst, AfterEnum, AfterVoidType, AfterType, NoWord, StaticWord, ExternWord, ConstWord, Declaring, Bare, Starting, Negating, Started, Listing, Enumerated, AfterDefine, Defining, NegativeDefining, Enclosing, NegativeEnclosing, Enclosed, Parameters, InParameters, AfterVoid, AfterParameters, Ready, LocalConst, LocalType, NextLocal, LocalNamed, Ended, Wants, Has, Counting, Named, Opens, VoidComes, VoidCloses, CallComes, CallOpens, CallCloses, Finishing, Returning, Returned, Closing, Over, with_declared, folded, linked}
 use Rattle.c_grammar.specs.Deep.{guarded}
 use Rattle.c_grammar.proofs.Complete.{pre_step, left_step, loop_step, else_step, then_step}
 use Rattle.c_grammar.proofs.Closing.{nowhere, closers, closers_no_else}
@@ -40,13 +41,18 @@ unfolding guarded
 ends_use (ToAssign p x outer) e n few =
     let h = closes outer (Assign p x e Done) n in
     record { tail = at nowhere signs.Semicolon ∷ closers outer; made = h.0; reads = takes (Has [] (ToAssign p x outer) e) (Ended outer (Assign p x e Done)) nowhere signs.Semicolon n n (closers outer) refl refl refl few ∙ h.1; tight = λ k. tt }
+ends_use (ToInitialise kind p x outer) e n few =
+    let next : Stack = folded outer (Assign p x e Done) in
+    let h = closes next (Skip nowhere Done) 0 in
+    let text : List Item = at nowhere signs.Semicolon ∷ closers next in
+    record { tail = at nowhere signs.Semicolon ∷ text; made = h.0; reads = takes (Has [] (ToInitialise kind p x outer) e) (Ready next) nowhere signs.Semicolon n n text refl refl refl few ∙ h.1; tight = λ k. tt }
 ends_use (ToUpdate p x u outer) e n few =
     let h = closes outer (updated p x u e) n in
     record { tail = at nowhere signs.Semicolon ∷ closers outer; made = h.0; reads = takes (Has [] (ToUpdate p x u outer) e) (Ended outer (updated p x u e)) nowhere signs.Semicolon n n (closers outer) refl refl refl few ∙ h.1; tight = λ k. tt }
 ends_use (ToAssert p outer) e n few =
     let h = closes outer (Assert p e Done) 0 in
     let text : List Item = at nowhere signs.Semicolon ∷ closers outer in
-    record { tail = at nowhere signs.Close ∷ text; made = h.0; reads = takes (Has [] (ToAssert p outer) e) (Finishing outer (Assert p e Done)) nowhere signs.Close n n text refl refl refl few ∙ h.1; tight = λ k. tt }
+    record { tail = at nowhere signs.Close ∷ text; made = h.0; reads = takes (Has [] (ToAssert p outer) e) (Finishing (OfStatement outer (Assert p e Done))) nowhere signs.Close n n text refl refl refl few ∙ h.1; tight = λ k. tt }
 ends_use (ToChoose p outer) e n few =
     let h = closes (ThenOf p e outer) (Skip nowhere Done) 0 in
     let text : List Item = at nowhere signs.Semicolon ∷ closers (ThenOf p e outer) in
@@ -95,6 +101,17 @@ after_declarator Unqualified x i secs ds n = let h = after_declarations secs (wi
 after_declarator Constant x i secs ds n = let h = after_declarations secs (with_declared secs ds x i) 0 in (at nowhere signs.Semicolon ∷ h.0, h.1, h.2)
 after_declarator (Counted last) x i secs ds n = let h = after_declarations secs (with_declared secs ds x i) 0 in (at nowhere signs.RightBrace ∷ at nowhere signs.Semicolon ∷ h.0, h.1, h.2)
 
+-- behind a statement or a declarator in `main`
+closes_pending : (made : Pending) (n : ℕ) → Rest (Finishing made) n
+unfolding guarded
+closes_pending (OfStatement outer c) n = let h = closes outer c 0 in (at nowhere signs.Semicolon ∷ closers outer, h.0, h.1)
+closes_pending (OfLocal kind outer c) n = let h = closes (folded outer c) (Skip nowhere Done) 0 in (at nowhere signs.Semicolon ∷ at nowhere signs.Semicolon ∷ closers (folded outer c), h.0, h.1)
+
+-- behind the name of a declarator in `main`
+after_name : (kind : Qualifier) (p : Place) (x : ℕ) (outer : Stack) (n : ℕ) → Rest (LocalNamed kind p x outer) n
+unfolding guarded
+after_name kind p x outer n = let h = ends_use (ToInitialise kind p x outer) (Var 0) 0 (omega arith) in (at nowhere signs.Equals ∷ at nowhere (signs.Name 0) ∷ h.tail, h.made, h.reads)
+
 -- each state that is reached within the limits goes on to a file within them
 pub goes_on_within : (state : ReadingState) (n : ℕ) → n ≤ 64 → Rest state n
 unfolding guarded after_declarator
@@ -126,6 +143,12 @@ goes_on_within (InParameters aim) n few = let h = after_parameters aim 0 in (at 
 goes_on_within (AfterVoid aim) n few = let h = after_parameters aim 0 in (at nowhere signs.Close ∷ h.0, h.1, h.2)
 goes_on_within (AfterParameters aim) n few = after_parameters aim n
 goes_on_within (Ready outer) n few = let h = closes outer (Skip nowhere Done) 0 in (at nowhere signs.Semicolon ∷ closers outer, h.0, h.1)
+goes_on_within (LocalConst outer) n few = let h = after_name Constant nowhere 0 outer 0 in (at nowhere signs.Int ∷ at nowhere (signs.Name 0) ∷ h.0, h.1, h.2)
+goes_on_within (LocalType Unqualified words outer) n few = let h = after_name Unqualified nowhere 0 outer 0 in (at nowhere (signs.Name 0) ∷ h.0, h.1, h.2)
+goes_on_within (LocalType Constant words outer) n few = let h = after_name Constant nowhere 0 outer 0 in (at nowhere (signs.Name 0) ∷ h.0, h.1, h.2)
+goes_on_within (LocalType (Counted last) words outer) n few = let h = after_name (Counted last) nowhere 0 outer 0 in (at nowhere (signs.Name 0) ∷ h.0, h.1, h.2)
+goes_on_within (NextLocal kind outer) n few = let h = after_name kind nowhere 0 outer 0 in (at nowhere (signs.Name 0) ∷ h.0, h.1, h.2)
+goes_on_within (LocalNamed kind p x outer) n few = after_name kind p x outer n
 goes_on_within (Ended outer c) n few = let h = closes outer c n in (closers outer, h.0, h.1)
 goes_on_within (Wants fs u) n few = let h = ends_expr fs u (Var 0) n few in (at nowhere (signs.Name 0) ∷ h.tail, h.made, takes (Wants fs u) (Has fs u (Var 0)) nowhere (signs.Name 0) n n h.tail refl refl refl few ∙ h.reads)
 goes_on_within (Has fs u e) n few = let h = ends_expr fs u e n few in (h.tail, h.made, h.reads)
@@ -135,9 +158,9 @@ goes_on_within (Opens u) n few = let h = ends_use u (Var 0) 0 (omega arith) in (
 goes_on_within (VoidComes p outer) n few = let h = closes outer (Skip p Done) 0 in (at nowhere signs.Void ∷ at nowhere signs.Close ∷ at nowhere signs.Input ∷ at nowhere signs.Open ∷ at nowhere signs.Close ∷ at nowhere signs.Semicolon ∷ closers outer, h.0, h.1)
 goes_on_within (VoidCloses p outer) n few = let h = closes outer (Skip p Done) 0 in (at nowhere signs.Close ∷ at nowhere signs.Input ∷ at nowhere signs.Open ∷ at nowhere signs.Close ∷ at nowhere signs.Semicolon ∷ closers outer, h.0, h.1)
 goes_on_within (CallComes p outer) n few = let h = closes outer (Skip p Done) 0 in (at nowhere signs.Input ∷ at nowhere signs.Open ∷ at nowhere signs.Close ∷ at nowhere signs.Semicolon ∷ closers outer, h.0, h.1)
-goes_on_within (CallOpens outer c) n few = let h = closes outer c 0 in (at nowhere signs.Open ∷ at nowhere signs.Close ∷ at nowhere signs.Semicolon ∷ closers outer, h.0, h.1)
-goes_on_within (CallCloses outer c) n few = let h = closes outer c 0 in (at nowhere signs.Close ∷ at nowhere signs.Semicolon ∷ closers outer, h.0, h.1)
-goes_on_within (Finishing outer c) n few = let h = closes outer c 0 in (at nowhere signs.Semicolon ∷ closers outer, h.0, h.1)
+goes_on_within (CallOpens made) n few = let h = closes_pending made 0 in (at nowhere signs.Open ∷ at nowhere signs.Close ∷ h.0, h.1, h.2)
+goes_on_within (CallCloses made) n few = let h = closes_pending made 0 in (at nowhere signs.Close ∷ h.0, h.1, h.2)
+goes_on_within (Finishing made) n few = closes_pending made n
 goes_on_within (Returning p ds made) n few = (at nowhere (signs.Number (pos 0)) ∷ at nowhere signs.Semicolon ∷ at nowhere signs.RightBrace ∷ [], file_of ds (followed made (Skip p Done)) nowhere, refl)
 goes_on_within (Returned ds made) n few = (at nowhere signs.Semicolon ∷ at nowhere signs.RightBrace ∷ [], file_of ds made nowhere, refl)
 goes_on_within (Closing ds made) n few = (at nowhere signs.RightBrace ∷ [], file_of ds made nowhere, refl)

@@ -9,7 +9,7 @@ use Rattle.c_tree.specs.Tree.{Code, Done, Assign, Input, Assert, If, While, Bloc
 use Rattle.c_tree.specs.Project.{IsNumbered, IsGuarded, IsConditioned}
 use Rattle.c_grammar.specs.declared.items.Item.{Item}
 use Rattle.c_grammar.specs.declared.items.Sign.TheVariants as signs
-use Rattle.c_grammar.specs.Grammar.{at, Shape, Writes, none, more, choice, ends, otherwise, elif, assign, input, call, void_call, update, count, prefix_count, assert, skip, block, while, if_then, if_else, declared, Part, Outer, Vars, Later, Declares, nothing, variables, prototype, void_prototype, definition, section, last_var, next_var, end_part, else_part, elif_part, Returns, no_return, return, Body, body, Main, main, File, Forms, file, has_groups, whole_of}
+use Rattle.c_grammar.specs.Grammar.{at, Qualifier, LocalDeclarator, uninitialised, initialised, from_call, Shape, Writes, none, more, choice, local, last_local, next_local, ends, otherwise, elif, assign, input, call, void_call, update, count, prefix_count, assert, skip, block, while, if_then, if_else, declared, Part, Outer, Vars, Later, Declares, nothing, variables, prototype, void_prototype, definition, section, last_var, next_var, end_part, else_part, elif_part, Returns, no_return, return, Body, body, Main, main, File, Forms, file, has_groups, whole_of}
 use Rattle.c_grammar.specs.Facts.{AreConditionsOf, Conditioned}
 
 cut : (n : ℕ) (xs ys : List Item) → AreConditionsOf n (xs ++ ys) → AreConditionsOf n xs × AreConditionsOf n ys
@@ -27,10 +27,18 @@ followed_numbered n (Block p a rest) d h i = (h.0, followed_numbered n rest d h.
 followed_numbered n (Skip p rest) d h i = followed_numbered n rest d h i
 followed_numbered n (Cond m a b rest) d h i = (h.0, h.1, h.2, followed_numbered n rest d h.3 i)
 
+local_numbered : {ts : List Item} {c : Code} {kind : Qualifier} (n : ℕ) → LocalDeclarator kind ts c → IsNumbered n c
+local_numbered n (uninitialised p x) = tt
+local_numbered n (initialised p q x e) = tt
+local_numbered n (from_call p q r s t x g) = tt
+
 code_numbered : {s : Shape} {ts : List Item} {c : Code} (n : ℕ) → Writes s ts c → AreConditionsOf n ts → IsNumbered n c
 code_numbered n none h = tt
 code_numbered n (more {b} {ts} {us} {c} {d} s l) h = let r = cut n ts us h in followed_numbered n c d (code_numbered n s r.0) (code_numbered n l r.1)
 code_numbered n (choice p m {ts} {us} {vs} s t l) h = let r = cut n ts (us ++ vs) h.1 in let q = cut n us vs r.1 in (h.0, code_numbered n s r.0, code_numbered n t q.0, code_numbered n l q.1)
+code_numbered n (local {ts} {us} {vs} {c} {d} q v l) h = let k = cut n us vs (cut n ts (us ++ vs) h).1 in followed_numbered n c d (code_numbered n v k.0) (code_numbered n l k.1)
+code_numbered n (last_local p d) h = local_numbered n d
+code_numbered n (next_local p {ts} {us} {c} {d} o v) h = followed_numbered n c d (local_numbered n o) (code_numbered n v (cut n ts (at p signs.Comma ∷ us) h).1.1)
 code_numbered n (ends p) h = tt
 code_numbered n (otherwise p q {ts} s) h = code_numbered n s (cut n ts (at q signs.GroupEnd ∷ []) h.1).0
 code_numbered n (elif p m {ts} {us} s t) h = let r = cut n ts us h.1 in (h.0, code_numbered n s r.0, code_numbered n t r.1, tt)

@@ -9,7 +9,8 @@ use Rattle.c_grammar.specs.declared.items.Item.{Item}
 use Rattle.c_grammar.specs.declared.items.Sign.{Sign}
 use Rattle.c_grammar.specs.declared.items.Sign.TheVariants as signs
 use Rattle.c_grammar.specs.Grammar.{at, file_of, declared}
-use Rattle.c_grammar.specs.Constants.{of_constants, changed_at}
+use Rattle.c_grammar.specs.Constants.{of_constants}
+use Rattle.c_grammar.specs.Changes.{changed_at}
 use Rattle.c_grammar.specs.Kept.{kept}
 use Rattle.c_grammar.specs.Machine.{run, start}
 use Rattle.c_grammar.specs.Deep.{Wrong, Deep, guarded}
@@ -186,6 +187,42 @@ count_before_a_name = refl
 
 no_change_of_a_name : changed_at (items (signs.Name 3 ∷ [])) (at (place 1) (signs.Oper Add)) ≡ None
 no_change_of_a_name = refl
+
+-- in a declarator int x = changes nothing, and behind int x = 1 , y ; the name in x = is changed
+no_change_in_a_declarator : changed_at (items (signs.Int ∷ signs.Name 3 ∷ [])) (at (place 2) signs.Equals) ≡ None
+no_change_in_a_declarator = refl
+
+change_behind_a_declaration : changed_at (items (signs.Int ∷ signs.Name 3 ∷ signs.Equals ∷ signs.Number (pos 1) ∷ signs.Comma ∷ signs.Name 4 ∷ signs.Semicolon ∷ signs.Name 3 ∷ [])) (at (place 8) signs.Equals) ≡ Some (3, place 7)
+change_behind_a_declaration = refl
+
+-- int main ( ) { int x = 1 , y ; }
+declared_in_main : run start (items (head ++ signs.Int ∷ signs.Name 0 ∷ signs.Equals ∷ signs.Number (pos 1) ∷ signs.Comma ∷ signs.Name 1 ∷ signs.Semicolon ∷ signs.RightBrace ∷ []))
+    ≡ Ok (file_of [] (Assign (place 6) 0 (Number (pos 1)) (Input (place 10) 1 Done)) (place 12))
+unfolding run
+declared_in_main = refl
+
+-- int main ( ) { const int x = 2 ; int const y = input ( ) ; }
+constants_in_main : run start (items (head ++ signs.Const ∷ signs.Int ∷ signs.Name 0 ∷ signs.Equals ∷ signs.Number (pos 2) ∷ signs.Semicolon ∷ signs.Int ∷ signs.Const ∷ signs.Name 1 ∷ signs.Equals ∷ signs.Input ∷ signs.Open ∷ signs.Close ∷ signs.Semicolon ∷ signs.RightBrace ∷ []))
+    ≡ Ok (file_of [] (Assign (place 7) 0 (Number (pos 2)) (Input (place 13) 1 Done)) (place 19))
+unfolding run
+constants_in_main = refl
+
+-- const int x ;, if ( x ) int, int x #if 0 and int x = 1 , #if 0 in main: the last item is wrong
+constant_in_main_without_a_value : run start (items (head ++ signs.Const ∷ signs.Int ∷ signs.Name 0 ∷ signs.Semicolon ∷ [])) ≡ Err 1
+unfolding run
+constant_in_main_without_a_value = refl
+
+declaration_behind_a_condition : run start (items (head ++ signs.If ∷ signs.Open ∷ signs.Name 0 ∷ signs.Close ∷ signs.Int ∷ [])) ≡ Err 1
+unfolding run
+declaration_behind_a_condition = refl
+
+group_in_a_declarator : run start (items (head ++ signs.Int ∷ signs.Name 0 ∷ signs.GroupIf 0 ∷ [])) ≡ Err 1
+unfolding run
+group_in_a_declarator = refl
+
+group_between_declarators : run start (items (head ++ signs.Int ∷ signs.Name 0 ∷ signs.Equals ∷ signs.Number (pos 1) ∷ signs.Comma ∷ signs.GroupIf 0 ∷ [])) ≡ Err 1
+unfolding run
+group_between_declarators = refl
 
 -- int main ( ) { x += 2 * y - 1 ; return 0 ; }
 updated_by_an_expression : run start (items (head ++ signs.Name 0 ∷ signs.PlusEquals ∷ signs.Number (pos 2) ∷ signs.Oper Mul ∷ signs.Name 1 ∷ signs.Oper Sub ∷ signs.Number (pos 1) ∷ signs.Semicolon ∷ signs.Return ∷ signs.Number (pos 0) ∷ signs.Semicolon ∷ signs.RightBrace ∷ []))

@@ -14,7 +14,7 @@ use Rattle.c_tree.specs.Whole.{IsDeclaredOf}
 use Rattle.c_grammar.specs.declared.items.Item.{Item}
 use Rattle.c_grammar.specs.declared.items.Sign.{Sign}
 use Rattle.c_grammar.specs.declared.items.Sign.TheVariants as signs
-use Rattle.c_grammar.specs.Grammar.{at, Prefix, Positive, Negative, Inverse, applied, Expresses, number, name, group, prefix, loose, binary, Shape, Writes, none, more, choice, ends, otherwise, elif, assign, input, call, void_call, update, count, prefix_count, assert, skip, block, while, if_then, if_else, Qualifier, Unqualified, Constant, Counted, behind, unqualified, const_before, const_behind, Begins, only_type, then_type, enumeration, Declarator, bare, positive, negative, counted, Defines, defined, negative_defined, enclosed, negative_enclosed, declared, Part, Outer, Vars, Later, Declares, nothing, variables, prototype, void_prototype, definition, section, last_var, next_var, end_part, else_part, elif_part, Returns, no_return, return, Body, body, Main, main, File, Forms, file, has_groups, zeros}
+use Rattle.c_grammar.specs.Grammar.{at, Prefix, Positive, Negative, Inverse, applied, Expresses, number, name, group, prefix, loose, binary, LocalDeclarator, uninitialised, initialised, from_call, Shape, Writes, none, more, choice, local, last_local, next_local, ends, otherwise, elif, assign, input, call, void_call, update, count, prefix_count, assert, skip, block, while, if_then, if_else, Qualifier, Unqualified, Constant, Counted, behind, unqualified, const_before, const_behind, Begins, only_type, then_type, enumeration, Declarator, bare, positive, negative, counted, Defines, defined, negative_defined, enclosed, negative_enclosed, declared, Part, Outer, Vars, Later, Declares, nothing, variables, prototype, void_prototype, definition, section, last_var, next_var, end_part, else_part, elif_part, Returns, no_return, return, Body, body, Main, main, File, Forms, file, has_groups, zeros}
 use Rattle.c_grammar.specs.Facts.{AreFit, WellFormed, PlainWithoutGroups}
 use Rattle.c_tree.proofs.Starts.{length-start, ints-start}
 use Rattle.c_grammar.proofs.Keeping.{no_groups}
@@ -53,10 +53,18 @@ followed_fits n (Block p a rest) d h i = (h.0, followed_fits n rest d h.1 i)
 followed_fits n (Skip p rest) d h i = followed_fits n rest d h i
 followed_fits n (Cond m a b rest) d h i = (h.0, h.1, followed_fits n rest d h.2 i)
 
+local_fits : {ts : List Item} {c : Code} {kind : Qualifier} (n : ℕ) → LocalDeclarator kind ts c → AreFit n ts → IsCodeOf n c
+local_fits n (uninitialised p x) h = (h.0, tt)
+local_fits n (initialised p q x e) h = (h.0, term_fits n e h.1.1, tt)
+local_fits n (from_call p q r s t x g) h = (h.0, tt)
+
 code_fits : {s : Shape} {ts : List Item} {c : Code} (n : ℕ) → Writes s ts c → AreFit n ts → IsCodeOf n c
 code_fits n none h = tt
 code_fits n (more {b} {ts} {us} {c} {d} s l) h = let r = fit_split n ts us h in followed_fits n c d (code_fits n s r.0) (code_fits n l r.1)
 code_fits n (choice p m {ts} {us} {vs} s t l) h = let r = fit_split n ts (us ++ vs) h.1 in let q = fit_split n us vs r.1 in (code_fits n s r.0, code_fits n t q.0, code_fits n l q.1)
+code_fits n (local {ts} {us} {vs} {c} {d} q v l) h = let k = fit_split n us vs (fit_split n ts (us ++ vs) h).1 in followed_fits n c d (code_fits n v k.0) (code_fits n l k.1)
+code_fits n (last_local p {ts} d) h = local_fits n d (fit_split n ts (at p signs.Semicolon ∷ []) h).0
+code_fits n (next_local p {ts} {us} {c} {d} o v) h = let k = fit_split n ts (at p signs.Comma ∷ us) h in followed_fits n c d (local_fits n o k.0) (code_fits n v k.1.1)
 code_fits n (ends p) h = tt
 code_fits n (otherwise p q {ts} s) h = code_fits n s (fit_split n ts (at q signs.GroupEnd ∷ []) h.1).0
 code_fits n (elif p m {ts} {us} s t) h = let r = fit_split n ts us h.1 in (code_fits n s r.0, code_fits n t r.1, tt)
@@ -160,10 +168,18 @@ followed_plain (Block p a rest) d h i = (h.0, followed_plain rest d h.1 i)
 followed_plain (Skip p rest) d h i = followed_plain rest d h i
 followed_plain (Cond m a b rest) d h i = absurd h
 
+local_plain : {ts : List Item} {c : Code} {kind : Qualifier} → LocalDeclarator kind ts c → IsPlain c
+local_plain (uninitialised p x) = tt
+local_plain (initialised p q x e) = tt
+local_plain (from_call p q r s t x g) = tt
+
 code_plain : {s : Shape} {ts : List Item} {c : Code} → Writes s ts c → has_groups ts ≡ false → IsPlain c
 code_plain none h = tt
 code_plain (more {b} {ts} {us} {c} {d} s l) h = let r = no_groups ts us h in followed_plain c d (code_plain s r.0) (code_plain l r.1)
 code_plain (choice p m s t l) h = absurd cc
+code_plain (local {ts} {us} {vs} {c} {d} q v l) h = let k = no_groups us vs (no_groups ts (us ++ vs) h).1 in followed_plain c d (code_plain v k.0) (code_plain l k.1)
+code_plain (last_local p d) h = local_plain d
+code_plain (next_local p {ts} {us} {c} {d} o v) h = followed_plain c d (local_plain o) (code_plain v (no_groups ts (at p signs.Comma ∷ us) h).1)
 code_plain (ends p) h = tt
 code_plain (otherwise p q s) h = absurd cc
 code_plain (elif p m s t) h = absurd cc

@@ -14,7 +14,7 @@ use Rattle.c_grammar.specs.declared.items.Sign.{Sign}
 use Rattle.c_grammar.specs.declared.items.Sign.TheVariants as signs
 use Rattle.c_grammar.specs.declared.items.Item.{Item}
 use Rattle.c_grammar.specs.Grammar.{Count, tighter, Positive, Negative, Inverse, Qualifier, Unqualified, Constant, Counted, File}
-use Rattle.c_grammar.specs.Machine.{Frame, Paren, Pre, Left, Stack, Top, Braces, Yes, No, ThenOf, ElseOf, LoopOf, Use, ToAssign, ToUpdate, ToAssert, ToChoose, ToLoop, Sections, Outermost, InPart, InLast, Aim, ToPrototype, ToMain, Tailing, Another, ReadingState, Outside, AfterStatic, AfterExtern, AfterConst, AfterEnum, AfterVoidType, AfterType, Leading, NoWord, StaticWord, ExternWord, ConstWord, TypeWords, OneInt, OneSigned, Declaring, Bare, Starting, Negating, Started, Listing, Enumerated, AfterDefine, Defining, NegativeDefining, Enclosing, NegativeEnclosing, Enclosed, Parameters, InParameters, AfterVoid, AfterParameters, Ready, Ended, Wants, Has, Counting, Named, Opens, VoidComes, VoidCloses, CallComes, CallOpens, CallCloses, Finishing, Returning, Returned, Closing, Over, settle, input_of, want, tested, closed_by, assigned, ended_by, have, folded, else_of, linked, opened, braced, returned, next_part, last_part, group_end, begin, on, named, counting, at_open, at_close, at_semicolon, at_void, at_function, at_void_function, next_condition, last_section, section_end, outside, behind_extern, behind_static, declaring, qualifying, main_of, first_word, naming, behind_type, after_type, after_enum, listed, declaration_end, enumeration_end, started, listing, counts_on, without_value, is_bare, starting, negating, after_define, defined_as, defining, negative_defining, enclosing, negative_enclosing, in_parameters, after_parameters, returning, closing, over, with_declared, step, finish, start}
+use Rattle.c_grammar.specs.Machine.{Frame, Paren, Pre, Left, Stack, Top, Braces, Yes, No, ThenOf, ElseOf, LoopOf, Use, ToAssign, ToInitialise, ToUpdate, ToAssert, ToChoose, ToLoop, Pending, OfStatement, OfLocal, Sections, Outermost, InPart, InLast, Aim, ToPrototype, ToMain, Tailing, Another, ReadingState, Outside, AfterStatic, AfterExtern, AfterConst, AfterEnum, AfterVoidType, AfterType, Leading, NoWord, StaticWord, ExternWord, ConstWord, TypeWords, OneInt, OneSigned, WholeType, Declaring, Bare, Starting, Negating, Started, Listing, Enumerated, AfterDefine, Defining, NegativeDefining, Enclosing, NegativeEnclosing, Enclosed, Parameters, InParameters, AfterVoid, AfterParameters, Ready, LocalConst, LocalType, NextLocal, LocalNamed, Ended, Wants, Has, Counting, Named, Opens, VoidComes, VoidCloses, CallComes, CallOpens, CallCloses, Finishing, Returning, Returned, Closing, Over, settle, input_of, want, tested, closed_by, assigned, ended_by, initialised, followed_by, have, folded, else_of, linked, opened, braced, returned, next_part, last_part, group_end, in_list, begin, on, named, counting, local_end, const_word, next_local, behind_local_type, local_type, without_initialiser, local_named, finishing, at_open, at_close, at_semicolon, at_void, at_function, at_void_function, next_condition, last_section, section_end, outside, behind_extern, behind_static, declaring, qualifying, main_of, first_word, naming, behind_type, after_type, after_enum, listed, declaration_end, enumeration_end, started, listing, counts_on, without_value, is_bare, starting, negating, after_define, defined_as, defining, negative_defining, enclosing, negative_enclosing, in_parameters, after_parameters, returning, closing, over, with_declared, step, finish, start}
 use Rattle.c_grammar.specs.Deep.{depth, opens_more, is_nested, counted, is_long, is_deep, Fault, ended, went, guarded}
 
 max_parts : (a b k m : ℕ) → max a b + k ≤ m → (a + k ≤ m) × (b + k ≤ m)
@@ -113,13 +113,22 @@ weight (Left op a ∷ fs) = suc (operators a) + weight fs
 
 UseFits : Use → Type 0
 UseFits (ToAssign p x outer) = Fits outer
+UseFits (ToInitialise kind p x outer) = Fits outer
 UseFits (ToUpdate p x u outer) = Fits outer
 UseFits (ToAssert p outer) = Fits outer
 UseFits (ToChoose p outer) = (suc (depth outer) ≤ 64) × Fits outer
 UseFits (ToLoop p outer) = (suc (depth outer) ≤ 64) × Fits outer
 
+PendingFits : Pending → Type 0
+PendingFits (OfStatement outer c) = Fits outer × Fine (depth outer) c
+PendingFits (OfLocal kind outer c) = Fits outer × Fine (depth outer) c
+
 StateFits : ReadingState → ℕ → Type 0
 StateFits (Ready outer) k = Fits outer
+StateFits (LocalConst outer) k = Fits outer
+StateFits (LocalType kind words outer) k = Fits outer
+StateFits (NextLocal kind outer) k = Fits outer
+StateFits (LocalNamed kind p x outer) k = Fits outer
 StateFits (Ended outer c) k = Fits outer × Fine (depth outer) c
 StateFits (Wants fs u) k = UseFits u × (weight fs ≤ k) × (k ≤ 64)
 StateFits (Has fs u e) k = UseFits u × (weight fs + operators e ≤ k) × (k ≤ 64)
@@ -129,9 +138,9 @@ StateFits (Opens u) k = UseFits u
 StateFits (VoidComes p outer) k = Fits outer
 StateFits (VoidCloses p outer) k = Fits outer
 StateFits (CallComes p outer) k = Fits outer
-StateFits (CallOpens outer c) k = Fits outer × Fine (depth outer) c
-StateFits (CallCloses outer c) k = Fits outer × Fine (depth outer) c
-StateFits (Finishing outer c) k = Fits outer × Fine (depth outer) c
+StateFits (CallOpens made) k = PendingFits made
+StateFits (CallCloses made) k = PendingFits made
+StateFits (Finishing made) k = PendingFits made
 StateFits (Returning p ds made) k = Fine 0 made
 StateFits (Returned ds made) k = Fine 0 made
 StateFits (Closing ds made) k = Fine 0 made
@@ -177,9 +186,22 @@ end_fits k (Yes links n made outer) h = (h.2, linked_fits links (depth outer) (C
 end_fits k (No links n first made outer) h = (h.3, linked_fits links (depth outer) (Cond n first made Done) h.2 (around_both (nesting first) (nesting made) (length links + depth outer) (omega (arith, h.1.0)) (omega (arith, h.0.0)), (h.1.1, h.0.1, tt)))
 end_fits k _ h = tt
 
+list_fits : (outer : Stack) (next : ReadingState) (k : ℕ) → StateFits next k → IfSome (in_list outer next) (λ n. StateFits n k)
+list_fits (Top ds made) next k h = h
+list_fits (Braces p made outer) next k h = h
+list_fits (Yes links n made outer) next k h = h
+list_fits (No links n first made outer) next k h = h
+list_fits (ThenOf p e outer) next k h = tt
+list_fits (ElseOf p e first outer) next k h = tt
+list_fits (LoopOf p e outer) next k h = tt
+
 begin_fits : (outer : Stack) (p : Place) (s : Sign) (k : ℕ) → (opens_more s && leb 64 (depth outer)) ≡ false → Fits outer → IfSome (begin outer p s) (λ next. StateFits next k)
-unfolding StateFits UseFits
+unfolding StateFits UseFits PendingFits
 begin_fits outer p (signs.Name x) k l h = h
+begin_fits outer p signs.Const k l h = list_fits outer (LocalConst outer) k h
+begin_fits outer p signs.Int k l h = list_fits outer (LocalType Unqualified OneInt outer) k h
+begin_fits outer p signs.Int32 k l h = list_fits outer (LocalType Unqualified WholeType outer) k h
+begin_fits outer p signs.Signed k l h = list_fits outer (LocalType Unqualified OneSigned outer) k h
 begin_fits outer p signs.Input k l h = (h, (depth_fits outer h, tt))
 begin_fits outer p (signs.Function n) k l h = (h, (depth_fits outer h, tt))
 begin_fits outer p signs.Open k l h = h
@@ -232,8 +254,9 @@ prefix_fits fs u Sub k h w l = (h, omega arith, l)
 prefix_fits fs u _ k h w l = tt
 
 input_fits : (fs : List Frame) (u : Use) (k : ℕ) → UseFits u → IfSome (input_of fs u) (λ next. StateFits next k)
-unfolding StateFits UseFits
+unfolding StateFits UseFits PendingFits
 input_fits [] (ToAssign p x outer) k h = (h, (depth_fits outer h, tt))
+input_fits [] (ToInitialise kind p x outer) k h = (h, (depth_fits outer h, tt))
 input_fits _ _ k h = tt
 
 want_fits : (fs : List Frame) (u : Use) (p : Place) (s : Sign) (k : ℕ) → is_long (Wants fs u) s k ≡ false → StateFits (Wants fs u) k → IfSome (want fs u s) (λ next. StateFits next (counted (Wants fs u) s k))
@@ -248,8 +271,9 @@ want_fits fs u p (signs.Function n) k l h = input_fits fs u k h.0
 want_fits fs u p _ k l h = tt
 
 tested_fits : (u : Use) (e : Term) (k : ℕ) → UseFits u → operators e ≤ 64 → IfSome (tested u e) (λ next. StateFits next k)
-unfolding StateFits UseFits
+unfolding StateFits UseFits PendingFits
 tested_fits (ToAssign p x outer) e k h w = tt
+tested_fits (ToInitialise kind p x outer) e k h w = tt
 tested_fits (ToUpdate p x u outer) e k h w = tt
 tested_fits (ToAssert p outer) e k h w = (h, (depth_fits outer h, (w, tt)))
 tested_fits (ToChoose p outer) e k h w = (h.0, w, h.1)
@@ -265,6 +289,7 @@ closed_fits (Left op a ∷ fs) u e k h w l = tt
 assigned_fits : (u : Use) (e : Term) (k : ℕ) → UseFits u → operators e ≤ 64 → IfSome (assigned u e) (λ next. StateFits next k)
 unfolding StateFits UseFits
 assigned_fits (ToAssign p x outer) e k h w = (h, (depth_fits outer h, (omega arith, tt)))
+assigned_fits (ToInitialise kind p x outer) e k h w = folded_fits outer (Assign p x e Done) h (depth_fits outer h, (omega arith, tt))
 assigned_fits (ToUpdate p x u outer) e k h w = (h, (depth_fits outer h, (omega arith, tt)))
 assigned_fits (ToAssert p outer) e k h w = tt
 assigned_fits (ToChoose p outer) e k h w = tt
@@ -275,6 +300,20 @@ unfolding weight
 ended_fits [] u e k h w l = assigned_fits u e k h (omega arith)
 ended_fits (f ∷ fs) u e k h w l = tt
 
+initialised_fits : (u : Use) (e : Term) (k : ℕ) → UseFits u → operators e ≤ 64 → IfSome (initialised u e) (λ next. StateFits next k)
+unfolding StateFits UseFits
+initialised_fits (ToInitialise kind p x outer) e k h w = folded_fits outer (Assign p x e Done) h (depth_fits outer h, (omega arith, tt))
+initialised_fits (ToAssign p x outer) e k h w = tt
+initialised_fits (ToUpdate p x u outer) e k h w = tt
+initialised_fits (ToAssert p outer) e k h w = tt
+initialised_fits (ToChoose p outer) e k h w = tt
+initialised_fits (ToLoop p outer) e k h w = tt
+
+followed_fits : (fs : List Frame) (u : Use) (e : Term) (k : ℕ) → UseFits u → weight fs + operators e ≤ k → k ≤ 64 → IfSome (followed_by fs u e) (λ next. StateFits next k)
+unfolding weight
+followed_fits [] u e k h w l = initialised_fits u e k h (omega arith)
+followed_fits (f ∷ fs) u e k h w l = tt
+
 have_fits : (fs : List Frame) (u : Use) (e : Term) (p : Place) (s : Sign) (k : ℕ) → is_long (Has fs u e) s k ≡ false → StateFits (Has fs u e) k → IfSome (have fs u e s) (λ next. StateFits next (counted (Has fs u e) s k))
 unfolding StateFits weight
 have_fits fs u e p signs.Close k l h = closed_fits (settle 6 fs e).0 u (settle 6 fs e).1 k h.0 (settled 6 fs e k h.1) h.2
@@ -283,10 +322,11 @@ have_fits fs u e p (signs.Oper op) k l h =
     let w = settled (suc (tighter op)) fs e k h.1 in
     (h.0, omega (arith, w), omega (arith, lt))
 have_fits fs u e p signs.Semicolon k l h = ended_fits (settle 6 fs e).0 u (settle 6 fs e).1 k h.0 (settled 6 fs e k h.1) h.2
+have_fits fs u e p signs.Comma k l h = followed_fits (settle 6 fs e).0 u (settle 6 fs e).1 k h.0 (settled 6 fs e k h.1) h.2
 have_fits fs u e p _ k l h = tt
 
 named_fits : (q : Place) (x : ℕ) (outer : Stack) (s : Sign) → Fits outer → IfSome (named q x outer s) (λ next. StateFits next 0)
-unfolding StateFits UseFits weight
+unfolding StateFits UseFits PendingFits weight
 named_fits q x outer signs.Equals h = (h, omega arith, omega arith)
 named_fits q x outer signs.PlusEquals h = (h, omega arith, omega arith)
 named_fits q x outer signs.MinusEquals h = (h, omega arith, omega arith)
@@ -298,9 +338,47 @@ named_fits q x outer signs.MinusMinus h = (h, (depth_fits outer h, (omega arith,
 named_fits q x outer _ h = tt
 
 counting_fits : (q : Place) (u : Count) (outer : Stack) (s : Sign) → Fits outer → IfSome (counting q u outer s) (λ next. StateFits next 0)
-unfolding StateFits
+unfolding StateFits PendingFits
 counting_fits q u outer (signs.Name x) h = (h, (depth_fits outer h, (omega arith, tt)))
 counting_fits q u outer _ h = tt
+
+local_end_fits : (kind : Qualifier) (outer : Stack) (c : Code) (s : Sign) → Fits outer → Fine (depth outer) c → IfSome (local_end kind outer c s) (λ next. StateFits next 0)
+unfolding StateFits
+local_end_fits kind outer c signs.Semicolon h i = folded_fits outer c h i
+local_end_fits kind outer c signs.Comma h i = folded_fits outer c h i
+local_end_fits kind outer c _ h i = tt
+
+const_word_fits : (outer : Stack) (s : Sign) → Fits outer → IfSome (const_word outer s) (λ next. StateFits next 0)
+unfolding StateFits
+const_word_fits outer signs.Int h = h
+const_word_fits outer signs.Int32 h = h
+const_word_fits outer signs.Signed h = h
+const_word_fits outer _ h = tt
+
+next_local_fits : (kind : Qualifier) (outer : Stack) (p : Place) (s : Sign) → Fits outer → IfSome (next_local kind outer p s) (λ next. StateFits next 0)
+unfolding StateFits
+next_local_fits kind outer p (signs.Name x) h = h
+next_local_fits kind outer p _ h = tt
+
+behind_local_type_fits : (kind : Qualifier) (outer : Stack) (p : Place) (s : Sign) → Fits outer → IfSome (behind_local_type kind outer p s) (λ next. StateFits next 0)
+unfolding StateFits
+behind_local_type_fits Unqualified outer p signs.Const h = h
+behind_local_type_fits kind outer p s h = next_local_fits kind outer p s h
+
+local_type_fits : (kind : Qualifier) (outer : Stack) (p : Place) (s : Sign) (words : TypeWords) → Fits outer → IfSome (local_type kind outer p s words) (λ next. StateFits next 0)
+unfolding StateFits
+local_type_fits kind outer p signs.Signed OneInt h = h
+local_type_fits kind outer p signs.Int OneSigned h = h
+local_type_fits kind outer p s words h = behind_local_type_fits kind outer p s h
+
+uninitialised_fits : (kind : Qualifier) (p : Place) (x : ℕ) (outer : Stack) (s : Sign) → Fits outer → IfSome (without_initialiser kind p x outer s) (λ next. StateFits next 0)
+uninitialised_fits Unqualified p x outer s h = local_end_fits Unqualified outer (Input p x Done) s h (depth_fits outer h, tt)
+uninitialised_fits kind p x outer s h = tt
+
+local_named_fits : (kind : Qualifier) (p : Place) (x : ℕ) (outer : Stack) (s : Sign) → Fits outer → IfSome (local_named kind p x outer s) (λ next. StateFits next 0)
+unfolding StateFits UseFits weight
+local_named_fits kind p x outer signs.Equals h = (h, omega arith, omega arith)
+local_named_fits kind p x outer s h = uninitialised_fits kind p x outer s h
 
 open_fits : (next : ReadingState) (s : Sign) → StateFits next 0 → IfSome (at_open next s) (λ n. StateFits n 0)
 open_fits next signs.Open h = h
@@ -313,6 +391,11 @@ close_fits next _ h = tt
 semicolon_fits : (next : ReadingState) (s : Sign) → StateFits next 0 → IfSome (at_semicolon next s) (λ n. StateFits n 0)
 semicolon_fits next signs.Semicolon h = h
 semicolon_fits next _ h = tt
+
+finishing_fits : (made : Pending) (s : Sign) → PendingFits made → IfSome (finishing made s) (λ n. StateFits n 0)
+unfolding StateFits PendingFits
+finishing_fits (OfStatement outer c) s h = semicolon_fits (Ended outer c) s h
+finishing_fits (OfLocal kind outer c) s h = local_end_fits kind outer c s h.0 h.1
 
 void_fits : (next : ReadingState) (s : Sign) → StateFits next 0 → IfSome (at_void next s) (λ n. StateFits n 0)
 void_fits next signs.Void h = h
@@ -534,7 +617,7 @@ over_fits f (part ∷ parts) signs.GroupEnd h = h
 over_fits f _ _ h = tt
 
 step_fits : (state : ReadingState) (p : Place) (s : Sign) (k : ℕ) → is_nested state s ≡ false → is_long state s k ≡ false → StateFits state k → IfSome (step state p s) (λ next. StateFits next (counted state s k))
-unfolding StateFits UseFits weight
+unfolding StateFits UseFits PendingFits weight
 step_fits (Outside secs ds) p s k d l h = outside_fits secs ds s
 step_fits (AfterStatic secs ds) p s k d l h = static_fits secs ds s
 step_fits (AfterExtern secs ds) p s k d l h = extern_fits secs ds s
@@ -560,6 +643,10 @@ step_fits (InParameters aim) p s k d l h = in_parameters_fits aim s
 step_fits (AfterVoid aim) p s k d l h = close_fits (AfterParameters aim) s tt
 step_fits (AfterParameters aim) p s k d l h = after_parameters_fits aim s
 step_fits (Ready outer) p s k d l h = begin_fits outer p s 0 d h
+step_fits (LocalConst outer) p s k d l h = const_word_fits outer s h
+step_fits (LocalType kind words outer) p s k d l h = local_type_fits kind outer p s words h
+step_fits (NextLocal kind outer) p s k d l h = next_local_fits kind outer p s h
+step_fits (LocalNamed kind q x outer) p s k d l h = local_named_fits kind q x outer s h
 step_fits (Ended outer c) p s k d l h = on_fits outer c p s 0 d h.0 h.1
 step_fits (Wants fs u) p s k d l h = want_fits fs u p s k l h
 step_fits (Has fs u e) p s k d l h = have_fits fs u e p s k l h
@@ -568,10 +655,10 @@ step_fits (Named q x outer) p s k d l h = named_fits q x outer s h
 step_fits (Opens u) p s k d l h = open_fits (Wants [] u) s (h, omega arith, omega arith)
 step_fits (VoidComes q outer) p s k d l h = void_fits (VoidCloses q outer) s h
 step_fits (VoidCloses q outer) p s k d l h = close_fits (CallComes q outer) s h
-step_fits (CallComes q outer) p s k d l h = function_fits (CallOpens outer (Skip q Done)) s (h, (depth_fits outer h, tt))
-step_fits (CallOpens outer c) p s k d l h = open_fits (CallCloses outer c) s h
-step_fits (CallCloses outer c) p s k d l h = close_fits (Finishing outer c) s h
-step_fits (Finishing outer c) p s k d l h = semicolon_fits (Ended outer c) s h
+step_fits (CallComes q outer) p s k d l h = function_fits (CallOpens (OfStatement outer (Skip q Done))) s (h, (depth_fits outer h, tt))
+step_fits (CallOpens made) p s k d l h = open_fits (CallCloses made) s h
+step_fits (CallCloses made) p s k d l h = close_fits (Finishing made) s h
+step_fits (Finishing made) p s k d l h = finishing_fits made s h
 step_fits (Returning q ds made) p s k d l h = returning_fits q ds made s h
 step_fits (Returned ds made) p s k d l h = semicolon_fits (Closing ds made) s h
 step_fits (Closing ds made) p s k d l h = closing_fits ds made p s h

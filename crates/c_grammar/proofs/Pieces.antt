@@ -1,14 +1,15 @@
--- Statements are put where they belong.
-use Rattle.std.proofs.Common.{◌≡◌, Bool, true, false, List, [], ◌∷◌, ◌++◌, sym, ap, subst, ◌∙◌, append_assoc}
+-- Statements and declarations are put where they belong.
+use Rattle.std.proofs.Common.{◌≡◌, Bool, true, false, List, [], ◌∷◌, ◌++◌, refl, sym, ap, subst, ◌∙◌, append_assoc}
 use Rattle.std.proofs.lemmas.List.{append-nil}
+use Rattle.fam_outer.specs.declared.faults.Place.{Place}
 use Rattle.c_tree.specs.Tree.{Code, Done, If, While, Cond, followed}
 use Rattle.c_grammar.specs.declared.items.Sign.TheVariants as signs
 use Rattle.c_grammar.specs.declared.items.Item.{Item}
 use Rattle.c_grammar.specs.Ahead.{IsList}
-use Rattle.c_grammar.specs.Grammar.{at, Listed, Stated, Writes, none, more, choice, while, if_then, if_else}
+use Rattle.c_grammar.specs.Grammar.{at, Listed, Stated, Qualifier, Qualified, LocalDeclarator, Writes, none, more, choice, local, last_local, next_local, while, if_then, if_else}
 use Rattle.c_grammar.specs.Machine.{Stack, Top, Braces, Yes, No, ThenOf, ElseOf, LoopOf, folded}
-use Rattle.c_grammar.proofs.Standing.{Read, Piece}
-use Rattle.c_grammar.proofs.Complete.{followed-none, followed-assoc}
+use Rattle.c_grammar.proofs.Standing.{Read, InDeclaration, Piece}
+use Rattle.c_grammar.proofs.Complete.{followed-none, followed-assoc, folded-none, folded-twice}
 
 single : {d : Bool} {ts : List Item} {c : Code} → Writes (Stated d) ts c → Writes Listed ts c
 single {d} {ts} {c} s =
@@ -22,6 +23,9 @@ joined {us = us} {d = d} (more {b} {ts = ts} {us = vs} {c} {d = e} s l) t =
 joined {us = us} {d = d} (choice p n {ts = ts} {us = vs} {vs = ws} {c} {d = e} {e = f} s t l) m =
     let is : (ts ++ (vs ++ ws)) ++ us ≡ ts ++ (vs ++ (ws ++ us)) = append_assoc ts (vs ++ ws) us ∙ ap (λ (x : List Item). ts ++ x) (append_assoc vs ws us) in
     subst (λ (y : List Item). Writes Listed (at p (signs.GroupIf n) ∷ y) (Cond n c e (followed f d))) (sym is) (choice p n s t (joined l m))
+joined {us = us} {d = d} (local {ts = ts} {us = vs} {vs = ws} {c} {d = e} q s l) t =
+    let is : (ts ++ (vs ++ ws)) ++ us ≡ ts ++ (vs ++ (ws ++ us)) = append_assoc ts (vs ++ ws) us ∙ ap (λ (x : List Item). ts ++ x) (append_assoc vs ws us) in
+    subst (λ (y : Code). Writes Listed ((ts ++ (vs ++ ws)) ++ us) y) (sym (followed-assoc c e d)) (subst (λ (y : List Item). Writes Listed y (followed c (followed e d))) (sym is) (local q s (joined l t)))
 
 pub piece : (d : Bool) (outer : Stack) (ts : List Item) (c : Code) → Writes (Stated d) ts c → Piece d outer ts c
 piece d (Top ds made) ts c s = single s
@@ -58,3 +62,44 @@ fold_is d (LoopOf p e outer) c b ts r s =
     let text : List Item = at p signs.While ∷ at r.0 signs.Open ∷ (r.3 ++ at r.1 signs.Close ∷ ts) in
     let is : b ++ ts ≡ r.2 ++ text = ap (λ (y : List Item). y ++ ts) r.6 ∙ simp append_assoc in
     subst (Read (folded outer (While p e c Done))) (sym is) (fold_is d outer (While p e c Done) r.2 text r.4 (piece d outer text (While p e c Done) (while p r.0 r.1 r.5 s)))
+
+-- ---- declarations in `main`
+
+-- behind its type
+pub declaration_begins : {kind : Qualifier} (outer : Stack) (b us : List Item) → Read outer b → IsList outer → Qualified kind us → InDeclaration kind outer (b ++ us)
+declaration_begins {kind} outer b us r is q = record {
+  before = outer;
+  start = b;
+  made = Done;
+  text = us;
+  is_read = r;
+  is_list = is;
+  folds = sym (folded-none outer is);
+  goes_on = λ ts c s. subst (λ (y : List Item). Writes Listed (us ++ y) c) (append-nil ts) (subst (Writes Listed (us ++ (ts ++ []))) (followed-none c) (local q s none));
+  parts = refl;
+}
+
+-- behind a comma
+pub declaration_goes_on : {kind : Qualifier} {outer : Stack} {b ts : List Item} {c : Code} (p : Place) → InDeclaration kind outer b → LocalDeclarator kind ts c → InDeclaration kind (folded outer c) (b ++ (ts ++ at p signs.Comma ∷ []))
+declaration_goes_on {kind} {outer} {b} {ts} {c} p d h = let is : (us : List Item) → d.text ++ (ts ++ at p signs.Comma ∷ us) ≡ (d.text ++ (ts ++ at p signs.Comma ∷ [])) ++ us = λ us. simp append_assoc in record {
+  before = d.before;
+  start = d.start;
+  made = followed d.made c;
+  text = d.text ++ (ts ++ at p signs.Comma ∷ []);
+  is_read = d.is_read;
+  is_list = d.is_list;
+  folds = ap (λ (y : Stack). folded y c) d.folds ∙ folded-twice d.before d.made c d.is_list;
+  goes_on = λ us e s. subst (λ (y : List Item). Writes Listed y (followed (followed d.made c) e)) (is us) (subst (Writes Listed (d.text ++ (ts ++ at p signs.Comma ∷ us))) (sym (followed-assoc d.made c e)) (d.goes_on (ts ++ at p signs.Comma ∷ us) (followed c e) (next_local p h s)));
+  parts = ap (λ (y : List Item). y ++ (ts ++ at p signs.Comma ∷ [])) d.parts ∙ append_assoc d.start d.text (ts ++ at p signs.Comma ∷ []);
+}
+
+-- behind its semicolon
+pub declaration_ends : {kind : Qualifier} {outer : Stack} {b ts : List Item} {c : Code} (p : Place) → InDeclaration kind outer b → LocalDeclarator kind ts c → Read (folded outer c) (b ++ (ts ++ at p signs.Semicolon ∷ []))
+declaration_ends {kind} {outer} {b} {ts} {c} p d h =
+    let end : List Item = ts ++ at p signs.Semicolon ∷ [] in
+    let text : List Item = d.text ++ end in
+    let all : Code = followed d.made c in
+    let r : Read (folded d.before all) (d.start ++ text) = fold_is false d.before all d.start text d.is_read (listed d.before text all d.is_list (d.goes_on end c (last_local p h))) in
+    let folds : folded outer c ≡ folded d.before all = ap (λ (y : Stack). folded y c) d.folds ∙ folded-twice d.before d.made c d.is_list in
+    let is : b ++ end ≡ d.start ++ text = ap (λ (y : List Item). y ++ end) d.parts ∙ append_assoc d.start d.text end in
+    subst (λ (y : Stack). Read y (b ++ end)) (sym folds) (subst (Read (folded d.before all)) (sym is) r)

@@ -8,7 +8,7 @@ use Rattle.c_tree.specs.Whole.{IsBeforeAll, IsRising}
 use Rattle.c_tree.proofs.Listed.{places_of-followed}
 use Rattle.c_grammar.specs.declared.items.Item.{Item}
 use Rattle.c_grammar.specs.declared.items.Sign.TheVariants as signs
-use Rattle.c_grammar.specs.Grammar.{at, update_sign, count_sign, Shape, Writes, none, more, choice, ends, otherwise, elif, assign, input, call, void_call, update, count, prefix_count, assert, skip, block, while, if_then, if_else, Returns, no_return, return, Body, body, Main, main, File, Forms, file}
+use Rattle.c_grammar.specs.Grammar.{at, update_sign, count_sign, Qualifier, LocalDeclarator, uninitialised, initialised, from_call, Shape, Writes, none, more, choice, local, last_local, next_local, ends, otherwise, elif, assign, input, call, void_call, update, count, prefix_count, assert, skip, block, while, if_then, if_else, Returns, no_return, return, Body, body, Main, main, File, Forms, file}
 use Rattle.c_grammar.specs.Facts.{IsBeforeItems, AreRising}
 
 -- the places are those of some of the items
@@ -46,10 +46,18 @@ padded {ps} {w} part = subst (λ (y : List Place). IsPart y w) (sym (append-nil 
 before : {ps : List Place} {v : List Item} (w : List Item) → IsPart ps v → IsPart ps (v ++ w)
 before {ps} {v} w part = subst (λ (y : List Place). IsPart y (v ++ w)) (append-nil ps) (joined part (no_part w))
 
+local_part : {ts : List Item} {c : Code} {kind : Qualifier} → LocalDeclarator kind ts c → IsPart (places_of c) ts
+local_part (uninitialised p x) = keep (at p (signs.Name x)) end
+local_part (initialised p q x {ts = ts} e) = keep (at p (signs.Name x)) (no_part (at q signs.Equals ∷ ts))
+local_part (from_call p q r s t x {f = f} g) = keep (at p (signs.Name x)) (no_part (at q signs.Equals ∷ at r f ∷ at s signs.Open ∷ at t signs.Close ∷ []))
+
 code_part : {s : Shape} {ts : List Item} {c : Code} → Writes s ts c → IsPart (places_of c) ts
 code_part none = end
 code_part (more {b} {ts} {us} {c} {d} s l) = subst (λ (y : List Place). IsPart y (ts ++ us)) (sym (places_of-followed c d)) (joined (code_part s) (code_part l))
 code_part (choice p m s t l) = pass (at p (signs.GroupIf m)) (joined (code_part s) (joined (code_part t) (code_part l)))
+code_part (local {ts} {us} {vs} {c} {d} q v l) = subst (λ (y : List Place). IsPart y (ts ++ (us ++ vs))) (sym (places_of-followed c d)) (pass_all ts (joined (code_part v) (code_part l)))
+code_part (last_local p d) = before (at p signs.Semicolon ∷ []) (local_part d)
+code_part (next_local p {ts} {us} {c} {d} o v) = subst (λ (y : List Place). IsPart y (ts ++ at p signs.Comma ∷ us)) (sym (places_of-followed c d)) (joined (local_part o) (pass (at p signs.Comma) (code_part v)))
 code_part (ends p) = pass (at p signs.GroupEnd) end
 code_part (otherwise p q s) = pass (at p signs.GroupElse) (before (at q signs.GroupEnd ∷ []) (code_part s))
 code_part (elif p m s t) = pass (at p (signs.GroupElif m)) (joined (code_part s) (padded (code_part t)))

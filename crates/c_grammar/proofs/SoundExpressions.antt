@@ -8,11 +8,12 @@ use Rattle.c_tree.specs.Tree.{Term, Binary, Done, Assign, Assert}
 use Rattle.c_grammar.specs.declared.items.Sign.{Sign}
 use Rattle.c_grammar.specs.declared.items.Sign.TheVariants as signs
 use Rattle.c_grammar.specs.declared.items.Item.{Item}
-use Rattle.c_grammar.specs.Grammar.{at, tighter, prefix_sign, applied, Expresses, number, name, group, prefix, loose, binary, update_sign, updated, Callable, of_input, of_function, Stated, Writes, assign, input, update, assert}
-use Rattle.c_grammar.specs.Machine.{Frame, Paren, Pre, Left, room, Use, ToAssign, ToUpdate, ToAssert, ToChoose, ToLoop, Has, settle, input_of, want, tested, closed_by, assigned, ended_by, have}
-use Rattle.c_grammar.proofs.Standing.{Framed, Stands}
+use Rattle.c_grammar.specs.Grammar.{at, Qualifier, tighter, prefix_sign, applied, Expresses, number, name, group, prefix, loose, binary, update_sign, updated, Callable, of_input, of_function, LocalDeclarator, from_call, Stated, Writes, assign, input, update, assert}
+use Rattle.c_grammar.specs.Grammar as grammar
+use Rattle.c_grammar.specs.Machine.{Frame, Paren, Pre, Left, room, Stack, Use, ToAssign, ToInitialise, ToUpdate, ToAssert, ToChoose, ToLoop, Has, folded, settle, input_of, want, tested, closed_by, assigned, ended_by, initialised, followed_by, have}
+use Rattle.c_grammar.proofs.Standing.{InDeclaration, Read, Framed, Stands}
 use Rattle.c_grammar.proofs.Complete.{tighter_small}
-use Rattle.c_grammar.proofs.Pieces.{piece}
+use Rattle.c_grammar.proofs.Pieces.{piece, declaration_goes_on, declaration_ends}
 
 loosen : (j k : ℕ) {ts : List Item} {e : Term} → j ≤ k → Expresses j ts e → Expresses k ts e
 loosen j zero {ts} {e} le s = let h : j ≡ 0 = omega arith in subst (λ (i : ℕ). Expresses i ts e) h s
@@ -50,6 +51,8 @@ of_state fs u e a k small h = subst (λ (y : List Item). Settled u k (settle k f
 input_keeps : {f : Sign} (fs : List Frame) (u : Use) (p : Place) (a : List Item) → Callable f → Framed u fs a → IfSome (input_of fs u) (λ next. Stands next (a ++ at p f ∷ []))
 input_keeps {f} [] (ToAssign q x outer) p a g r =
     (r.1, at q (signs.Name x) ∷ at r.0 signs.Equals ∷ at p f ∷ [], r.2, (λ s t v. input q r.0 p s t v x g), ap (λ (y : List Item). y ++ at p f ∷ []) r.3 ∙ append_assoc r.1 (at q (signs.Name x) ∷ at r.0 signs.Equals ∷ []) (at p f ∷ []))
+input_keeps {f} [] (ToInitialise kind q x outer) p a g r =
+    (r.1, at q (signs.Name x) ∷ at r.0 signs.Equals ∷ at p f ∷ [], r.2, (λ s t. from_call q r.0 p s t x g), ap (λ (y : List Item). y ++ at p f ∷ []) r.3 ∙ append_assoc r.1 (at q (signs.Name x) ∷ at r.0 signs.Equals ∷ []) (at p f ∷ []))
 input_keeps _ _ p a g r = tt
 
 pub want_keeps : (fs : List Frame) (u : Use) (p : Place) (s : Sign) (a : List Item) → Framed u fs a → IfSome (want fs u s) (λ next. Stands next (a ++ at p s ∷ []))
@@ -65,6 +68,7 @@ want_keeps fs u p _ a r = tt
 
 tested_keeps : (u : Use) (e : Term) (p : Place) (a : List Item) → Settled u 6 ([], e) a → IfSome (tested u e) (λ next. Stands next (a ++ at p signs.Close ∷ []))
 tested_keeps (ToAssign q x outer) e p a d = tt
+tested_keeps (ToInitialise kind q x outer) e p a d = tt
 tested_keeps (ToUpdate q x u outer) e p a d = tt
 tested_keeps (ToAssert q outer) e p a d =
     let r = d.is_read in
@@ -92,11 +96,18 @@ closed_keeps (Paren ∷ fs) u e p a d =
 closed_keeps (Pre v ∷ fs) u e p a d = tt
 closed_keeps (Left op x ∷ fs) u e p a d = tt
 
+-- a declarator with its initialiser, and what ends it
+initialises : (kind : Qualifier) (q : Place) (x : ℕ) (outer : Stack) (e : Term) (p : Place) (s : Sign) (a : List Item) → Settled (ToInitialise kind q x outer) 6 ([], e) a → (b ts : List Item) × InDeclaration kind outer b × LocalDeclarator kind ts (Assign q x e Done) × (a ++ at p s ∷ [] ≡ b ++ (ts ++ at p s ∷ []))
+initialises kind q x outer e p s a d =
+    let r = d.is_read in
+    (r.1, at q (signs.Name x) ∷ at r.0 signs.Equals ∷ d.text, r.2, grammar.initialised q r.0 x d.spells, ap (λ (y : List Item). y ++ at p s ∷ []) (d.parts ∙ ap (λ (y : List Item). y ++ d.text) r.3) ∙ simp append_assoc)
+
 assigned_keeps : (u : Use) (e : Term) (p : Place) (a : List Item) → Settled u 6 ([], e) a → IfSome (assigned u e) (λ next. Stands next (a ++ at p signs.Semicolon ∷ []))
 assigned_keeps (ToAssign q x outer) e p a d =
     let r = d.is_read in
     let text : List Item = at q (signs.Name x) ∷ at r.0 signs.Equals ∷ (d.text ++ at p signs.Semicolon ∷ []) in
     (r.1, text, r.2, piece false outer text (Assign q x e Done) (assign q r.0 p x d.spells), ap (λ (y : List Item). y ++ at p signs.Semicolon ∷ []) (d.parts ∙ ap (λ (y : List Item). y ++ d.text) r.3) ∙ simp append_assoc)
+assigned_keeps (ToInitialise kind q x outer) e p a d = let r = initialises kind q x outer e p signs.Semicolon a d in subst (Read (folded outer (Assign q x e Done))) (sym r.4) (declaration_ends p r.2 r.3)
 assigned_keeps (ToUpdate q x v outer) e p a d =
     let r = d.is_read in
     let text : List Item = at q (signs.Name x) ∷ at r.0 (update_sign v) ∷ (d.text ++ at p signs.Semicolon ∷ []) in
@@ -109,10 +120,23 @@ ended_keeps : (fs : List Frame) (u : Use) (e : Term) (p : Place) (a : List Item)
 ended_keeps [] u e p a d = assigned_keeps u e p a d
 ended_keeps (f ∷ fs) u e p a d = tt
 
+initialised_keeps : (u : Use) (e : Term) (p : Place) (a : List Item) → Settled u 6 ([], e) a → IfSome (initialised u e) (λ next. Stands next (a ++ at p signs.Comma ∷ []))
+initialised_keeps (ToInitialise kind q x outer) e p a d = let r = initialises kind q x outer e p signs.Comma a d in subst (InDeclaration kind (folded outer (Assign q x e Done))) (sym r.4) (declaration_goes_on p r.2 r.3)
+initialised_keeps (ToAssign q x outer) e p a d = tt
+initialised_keeps (ToUpdate q x v outer) e p a d = tt
+initialised_keeps (ToAssert q outer) e p a d = tt
+initialised_keeps (ToChoose q outer) e p a d = tt
+initialised_keeps (ToLoop q outer) e p a d = tt
+
+followed_keeps : (fs : List Frame) (u : Use) (e : Term) (p : Place) (a : List Item) → Settled u 6 (fs, e) a → IfSome (followed_by fs u e) (λ next. Stands next (a ++ at p signs.Comma ∷ []))
+followed_keeps [] u e p a d = initialised_keeps u e p a d
+followed_keeps (f ∷ fs) u e p a d = tt
+
 pub have_keeps : (fs : List Frame) (u : Use) (e : Term) (p : Place) (s : Sign) (a : List Item) → Stands (Has fs u e) a → IfSome (have fs u e s) (λ next. Stands next (a ++ at p s ∷ []))
 have_keeps fs u e p signs.Close a r = closed_keeps (settle 6 fs e).0 u (settle 6 fs e).1 p a (of_state fs u e a 6 (omega arith) r)
 have_keeps fs u e p (signs.Oper op) a r =
     let d = of_state fs u e a (suc (tighter op)) (tighter_small op) r in
     (p, d.before, d.text, d.is_read, d.spells, d.fits, ap (λ (y : List Item). y ++ at p (signs.Oper op) ∷ []) d.parts ∙ append_assoc d.before d.text (at p (signs.Oper op) ∷ []))
 have_keeps fs u e p signs.Semicolon a r = ended_keeps (settle 6 fs e).0 u (settle 6 fs e).1 p a (of_state fs u e a 6 (omega arith) r)
+have_keeps fs u e p signs.Comma a r = followed_keeps (settle 6 fs e).0 u (settle 6 fs e).1 p a (of_state fs u e a 6 (omega arith) r)
 have_keeps fs u e p _ a r = tt

@@ -160,7 +160,7 @@ enum_keeps secs ds p signs.LeftBrace a r = λ w f v. moves a (at p signs.LeftBra
 enum_keeps secs ds p _ a r = tt
 
 -- the words of a whole type, and what a declaration begins with
-words_typed : {t : TypeWords} {us : List Item} → Words t us → Typed us
+pub words_typed : {t : TypeWords} {us : List Item} → Words t us → Typed us
 words_typed (one_int p) = int p
 words_typed (one_signed p) = signed p
 words_typed (whole_type y) = y

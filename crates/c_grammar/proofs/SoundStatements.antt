@@ -3,15 +3,17 @@ use Rattle.std.proofs.Common.{◌≡◌, ℕ, false, List, [], ◌∷◌, ◌++�
 use Rattle.std.specs.Prelude.{IfSome}
 use Rattle.std.proofs.lemmas.List.{append-nil}
 use Rattle.fam_outer.specs.declared.faults.Place.{Place}
-use Rattle.c_tree.specs.Tree.{Code, Done, If, While, Block, Skip, Cond, followed}
+use Rattle.c_tree.specs.Tree.{Code, Done, Input, If, While, Block, Skip, Cond, followed}
 use Rattle.c_grammar.specs.declared.items.Sign.{Sign}
 use Rattle.c_grammar.specs.declared.items.Sign.TheVariants as signs
 use Rattle.c_grammar.specs.declared.items.Item.{Item}
-use Rattle.c_grammar.specs.Grammar.{at, Count, Raise, Lower, count_sign, Callable, of_input, of_function, Listed, Stated, Chained, Writes, none, choice, ends, otherwise, elif, call, void_call, count, prefix_count, skip, block, while, if_else, no_return, return, body, file_of, Forms}
-use Rattle.c_grammar.specs.Machine.{Stack, Top, Braces, Yes, No, ThenOf, ElseOf, LoopOf, Use, ToAssign, ToUpdate, ToAssert, ToChoose, ToLoop, Ended, Wants, Counting, Named, VoidComes, VoidCloses, CallComes, CallOpens, CallCloses, Finishing, folded, else_of, linked, opened, braced, returned, next_part, last_part, group_end, begin, on, named, counting, at_open, at_close, at_semicolon, at_void, at_function}
-use Rattle.c_grammar.proofs.Standing.{Begun, Read, Used, UsedAt, Piece, Stands}
+use Rattle.c_grammar.specs.Ahead.{IsList}
+use Rattle.c_grammar.specs.Grammar.{at, Count, Raise, Lower, count_sign, Callable, of_input, of_function, int32, signed_int, int_signed, Qualifier, Unqualified, Constant, Counted, Qualified, unqualified, const_before, const_behind, LocalDeclarator, uninitialised, Listed, Chained, Writes, none, choice, ends, otherwise, elif, call, void_call, count, prefix_count, skip, block, while, if_else, no_return, return, body, file_of, Forms}
+use Rattle.c_grammar.specs.Machine.{Stack, Top, Braces, Yes, No, ThenOf, ElseOf, LoopOf, Use, ToAssign, ToInitialise, ToUpdate, ToAssert, ToChoose, ToLoop, Pending, OfStatement, OfLocal, TypeWords, OneInt, OneSigned, WholeType, ReadingState, LocalConst, LocalType, LocalNamed, Ended, Wants, Counting, Named, VoidComes, VoidCloses, CallComes, CallOpens, CallCloses, Finishing, folded, else_of, linked, opened, braced, returned, next_part, last_part, group_end, in_list, begin, on, named, counting, local_end, const_word, next_local, behind_local_type, local_type, without_initialiser, local_named, at_open, at_close, finishing, at_void, at_function}
+use Rattle.c_grammar.proofs.Standing.{Begun, Read, InDeclaration, Used, UsedAt, Pends, Piece, one_int, one_signed, whole_type, LocalWords, variable_words, constant_words, Stands}
 use Rattle.c_grammar.proofs.Complete.{followed-none}
-use Rattle.c_grammar.proofs.Pieces.{piece, listed, fold_is}
+use Rattle.c_grammar.proofs.Pieces.{piece, listed, fold_is, declaration_begins, declaration_goes_on, declaration_ends}
+use Rattle.c_grammar.proofs.SoundFiles.{words_typed}
 
 -- an `else` comes
 else_is : (outer : Stack) (c : Code) (z : Place) (b ts : List Item) → Read outer b → Piece false outer ts c → IfSome (else_of outer c) (λ next. Stands next (b ++ (ts ++ at z signs.Else ∷ [])))
@@ -101,8 +103,21 @@ end_keeps (No links n first made outer) p a r =
     )
 end_keeps _ p a r = tt
 
+in_list_keeps : (outer : Stack) (next : ReadingState) (a : List Item) → (IsList outer → Stands next a) → IfSome (in_list outer next) (λ state. Stands state a)
+in_list_keeps (Top ds made) next a h = h tt
+in_list_keeps (Braces q made outer) next a h = h tt
+in_list_keeps (Yes links n made outer) next a h = h tt
+in_list_keeps (No links n first made outer) next a h = h tt
+in_list_keeps (ThenOf q e outer) next a h = tt
+in_list_keeps (ElseOf q e first outer) next a h = tt
+in_list_keeps (LoopOf q e outer) next a h = tt
+
 pub begin_keeps : (outer : Stack) (p : Place) (s : Sign) (a : List Item) → Read outer a → IfSome (begin outer p s) (λ next. Stands next (a ++ at p s ∷ []))
 begin_keeps outer p (signs.Name x) a r = (a, r, refl)
+begin_keeps outer p signs.Const a r = in_list_keeps outer (LocalConst outer) (a ++ at p signs.Const ∷ []) (λ is. (p, a, r, is, refl))
+begin_keeps outer p signs.Int a r = in_list_keeps outer (LocalType Unqualified OneInt outer) (a ++ at p signs.Int ∷ []) (λ is. (a, at p signs.Int ∷ [], r, is, variable_words (one_int p), refl))
+begin_keeps outer p signs.Int32 a r = in_list_keeps outer (LocalType Unqualified WholeType outer) (a ++ at p signs.Int32 ∷ []) (λ is. (a, at p signs.Int32 ∷ [], r, is, variable_words (whole_type (int32 p)), refl))
+begin_keeps outer p signs.Signed a r = in_list_keeps outer (LocalType Unqualified OneSigned outer) (a ++ at p signs.Signed ∷ []) (λ is. (a, at p signs.Signed ∷ [], r, is, variable_words (one_signed p), refl))
 begin_keeps outer p signs.Input a r = (a, at p signs.Input ∷ [], r, (λ s t u. call p s t u of_input), refl)
 begin_keeps outer p (signs.Function k) a r = (a, at p (signs.Function k) ∷ [], r, (λ s t u. call p s t u (of_function k)), refl)
 begin_keeps outer p signs.Open a r = (a, r, refl)
@@ -144,6 +159,7 @@ counting_keeps q u outer p _ a r = tt
 
 opens_use : (u : Use) (p : Place) (a : List Item) → UsedAt u a → Used u (a ++ at p signs.Open ∷ [])
 opens_use (ToAssign q x outer) p a r = absurd r
+opens_use (ToInitialise kind q x outer) p a r = absurd r
 opens_use (ToUpdate q x u outer) p a r = absurd r
 opens_use (ToAssert q outer) p a r = (p, r.0, r.1, ap (λ (y : List Item). y ++ at p signs.Open ∷ []) r.2 ∙ append_assoc r.0 (at q signs.Assert ∷ []) (at p signs.Open ∷ []))
 opens_use (ToChoose q outer) p a r = (p, r.0, r.1, ap (λ (y : List Item). y ++ at p signs.Open ∷ []) r.2 ∙ append_assoc r.0 (at q signs.If ∷ []) (at p signs.Open ∷ []))
@@ -153,15 +169,73 @@ pub opens_keeps : (u : Use) (p : Place) (s : Sign) (a : List Item) → UsedAt u 
 opens_keeps u p signs.Open a r = opens_use u p a r
 opens_keeps u p _ a r = tt
 
-pub finishing_keeps : (outer : Stack) (c : Code) (p : Place) (s : Sign) (a : List Item) → Stands (Finishing outer c) a → IfSome (at_semicolon (Ended outer c) s) (λ next. Stands next (a ++ at p s ∷ []))
-finishing_keeps outer c p signs.Semicolon a r = (
+-- ---- declarations in `main`
+
+pub const_word_keeps : (outer : Stack) (p : Place) (s : Sign) (a : List Item) → Stands (LocalConst outer) a → IfSome (const_word outer s) (λ next. Stands next (a ++ at p s ∷ []))
+const_word_keeps outer p signs.Int a r = (r.1, at r.0 signs.Const ∷ at p signs.Int ∷ [], r.2, r.3, constant_words r.0 (one_int p), ap (λ (y : List Item). y ++ at p signs.Int ∷ []) r.4 ∙ append_assoc r.1 (at r.0 signs.Const ∷ []) (at p signs.Int ∷ []))
+const_word_keeps outer p signs.Int32 a r = (r.1, at r.0 signs.Const ∷ at p signs.Int32 ∷ [], r.2, r.3, constant_words r.0 (whole_type (int32 p)), ap (λ (y : List Item). y ++ at p signs.Int32 ∷ []) r.4 ∙ append_assoc r.1 (at r.0 signs.Const ∷ []) (at p signs.Int32 ∷ []))
+const_word_keeps outer p signs.Signed a r = (r.1, at r.0 signs.Const ∷ at p signs.Signed ∷ [], r.2, r.3, constant_words r.0 (one_signed p), ap (λ (y : List Item). y ++ at p signs.Signed ∷ []) r.4 ∙ append_assoc r.1 (at r.0 signs.Const ∷ []) (at p signs.Signed ∷ []))
+const_word_keeps outer p _ a r = tt
+
+pub next_local_keeps : (kind : Qualifier) (outer : Stack) (p : Place) (s : Sign) (a : List Item) → InDeclaration kind outer a → IfSome (next_local kind outer p s) (λ next. Stands next (a ++ at p s ∷ []))
+next_local_keeps kind outer p (signs.Name x) a d = (a, d, refl)
+next_local_keeps kind outer p _ a d = tt
+
+-- a whole type
+words_qualified : {kind : Qualifier} {t : TypeWords} {us : List Item} → LocalWords kind t us → Qualified kind us
+words_qualified (variable_words k) = unqualified (words_typed k)
+words_qualified (constant_words p k) = const_before p (words_typed k)
+
+-- `const` behind the type
+then_const : {t : TypeWords} {us : List Item} (p : Place) → LocalWords Unqualified t us → Qualified Constant (us ++ at p signs.Const ∷ [])
+then_const p (variable_words k) = const_behind p (words_typed k)
+
+-- a second word
+then_signed : {kind : Qualifier} {us : List Item} (p : Place) → LocalWords kind OneInt us → LocalWords kind WholeType (us ++ at p signs.Signed ∷ [])
+then_signed p (variable_words (one_int q)) = variable_words (whole_type (int_signed q p))
+then_signed p (constant_words r (one_int q)) = constant_words r (whole_type (int_signed q p))
+
+then_int : {kind : Qualifier} {us : List Item} (p : Place) → LocalWords kind OneSigned us → LocalWords kind WholeType (us ++ at p signs.Int ∷ [])
+then_int p (variable_words (one_signed q)) = variable_words (whole_type (signed_int q p))
+then_int p (constant_words r (one_signed q)) = constant_words r (whole_type (signed_int q p))
+
+behind_type_keeps : (kind : Qualifier) (words : TypeWords) (outer : Stack) (p : Place) (s : Sign) (a : List Item) → Stands (LocalType kind words outer) a → IfSome (behind_local_type kind outer p s) (λ next. Stands next (a ++ at p s ∷ []))
+behind_type_keeps Unqualified words outer p signs.Const a r =
+    let is : a ++ at p signs.Const ∷ [] ≡ r.0 ++ (r.1 ++ at p signs.Const ∷ []) = ap (λ (y : List Item). y ++ at p signs.Const ∷ []) r.5 ∙ append_assoc r.0 r.1 (at p signs.Const ∷ []) in
+    subst (InDeclaration Constant outer) (sym is) (declaration_begins outer r.0 (r.1 ++ at p signs.Const ∷ []) r.2 r.3 (then_const p r.4))
+behind_type_keeps kind words outer p s a r = next_local_keeps kind outer p s a (subst (InDeclaration kind outer) (sym r.5) (declaration_begins outer r.0 r.1 r.2 r.3 (words_qualified r.4)))
+
+pub local_type_keeps : (kind : Qualifier) (outer : Stack) (p : Place) (s : Sign) (words : TypeWords) (a : List Item) → Stands (LocalType kind words outer) a → IfSome (local_type kind outer p s words) (λ next. Stands next (a ++ at p s ∷ []))
+local_type_keeps kind outer p signs.Signed OneInt a r = (r.0, r.1 ++ at p signs.Signed ∷ [], r.2, r.3, then_signed p r.4, ap (λ (y : List Item). y ++ at p signs.Signed ∷ []) r.5 ∙ append_assoc r.0 r.1 (at p signs.Signed ∷ []))
+local_type_keeps kind outer p signs.Int OneSigned a r = (r.0, r.1 ++ at p signs.Int ∷ [], r.2, r.3, then_int p r.4, ap (λ (y : List Item). y ++ at p signs.Int ∷ []) r.5 ∙ append_assoc r.0 r.1 (at p signs.Int ∷ []))
+local_type_keeps kind outer p s words a r = behind_type_keeps kind words outer p s a r
+
+-- a declarator ends
+local_end_keeps : (kind : Qualifier) (outer : Stack) (c : Code) (p : Place) (s : Sign) (a b ts : List Item) → InDeclaration kind outer b → LocalDeclarator kind ts c → a ≡ b ++ ts → IfSome (local_end kind outer c s) (λ next. Stands next (a ++ at p s ∷ []))
+local_end_keeps kind outer c p signs.Semicolon a b ts d h is = subst (Read (folded outer c)) (sym (ap (λ (y : List Item). y ++ at p signs.Semicolon ∷ []) is ∙ append_assoc b ts (at p signs.Semicolon ∷ []))) (declaration_ends p d h)
+local_end_keeps kind outer c p signs.Comma a b ts d h is = subst (InDeclaration kind (folded outer c)) (sym (ap (λ (y : List Item). y ++ at p signs.Comma ∷ []) is ∙ append_assoc b ts (at p signs.Comma ∷ []))) (declaration_goes_on p d h)
+local_end_keeps kind outer c p _ a b ts d h is = tt
+
+uninitialised_keeps : (kind : Qualifier) (q : Place) (x : ℕ) (outer : Stack) (p : Place) (s : Sign) (a : List Item) → Stands (LocalNamed kind q x outer) a → IfSome (without_initialiser kind q x outer s) (λ next. Stands next (a ++ at p s ∷ []))
+uninitialised_keeps Unqualified q x outer p s a r = local_end_keeps Unqualified outer (Input q x Done) p s a r.0 (at q (signs.Name x) ∷ []) r.1 (uninitialised q x) r.2
+uninitialised_keeps Constant q x outer p s a r = tt
+uninitialised_keeps (Counted last) q x outer p s a r = tt
+
+pub local_named_keeps : (kind : Qualifier) (q : Place) (x : ℕ) (outer : Stack) (p : Place) (s : Sign) (a : List Item) → Stands (LocalNamed kind q x outer) a → IfSome (local_named kind q x outer s) (λ next. Stands next (a ++ at p s ∷ []))
+local_named_keeps kind q x outer p signs.Equals a r = (p, r.0, r.1, ap (λ (y : List Item). y ++ at p signs.Equals ∷ []) r.2 ∙ append_assoc r.0 (at q (signs.Name x) ∷ []) (at p signs.Equals ∷ []))
+local_named_keeps kind q x outer p s a r = uninitialised_keeps kind q x outer p s a r
+
+-- a statement ends, or a declarator
+pub finishing_keeps : (made : Pending) (p : Place) (s : Sign) (a : List Item) → Stands (Finishing made) a → IfSome (finishing made s) (λ next. Stands next (a ++ at p s ∷ []))
+finishing_keeps (OfStatement outer c) p signs.Semicolon a r = (
   r.0,
   r.1 ++ at p signs.Semicolon ∷ [],
   r.2,
   piece false outer (r.1 ++ at p signs.Semicolon ∷ []) c (r.3 p),
   ap (λ (y : List Item). y ++ at p signs.Semicolon ∷ []) r.4 ∙ append_assoc r.0 r.1 (at p signs.Semicolon ∷ []),
 )
-finishing_keeps outer c p _ a r = tt
+finishing_keeps (OfStatement outer c) p _ a r = tt
+finishing_keeps (OfLocal kind outer c) p s a r = local_end_keeps kind outer c p s a r.0 r.1 r.2 r.3 r.4
 
 -- ---- calls
 
@@ -174,7 +248,7 @@ void_closes_keeps q outer p signs.Close a r = (r.0, p, r.1, r.2, ap (λ (y : Lis
 void_closes_keeps q outer p _ a r = tt
 
 -- the name of the function behind `(void)`
-name_keeps : {f : Sign} (q : Place) (outer : Stack) (p : Place) (a : List Item) → Callable f → Stands (CallComes q outer) a → Stands (CallOpens outer (Skip q Done)) (a ++ at p f ∷ [])
+name_keeps : {f : Sign} (q : Place) (outer : Stack) (p : Place) (a : List Item) → Callable f → Stands (CallComes q outer) a → Stands (CallOpens (OfStatement outer (Skip q Done))) (a ++ at p f ∷ [])
 name_keeps {f} q outer p a g r = (
   r.2,
   at q signs.Open ∷ at r.0 signs.Void ∷ at r.1 signs.Close ∷ at p f ∷ [],
@@ -183,27 +257,27 @@ name_keeps {f} q outer p a g r = (
   ap (λ (y : List Item). y ++ at p f ∷ []) r.4 ∙ append_assoc r.2 (at q signs.Open ∷ at r.0 signs.Void ∷ at r.1 signs.Close ∷ []) (at p f ∷ []),
 )
 
-pub call_comes_keeps : (q : Place) (outer : Stack) (p : Place) (s : Sign) (a : List Item) → Stands (CallComes q outer) a → IfSome (at_function (CallOpens outer (Skip q Done)) s) (λ next. Stands next (a ++ at p s ∷ []))
+pub call_comes_keeps : (q : Place) (outer : Stack) (p : Place) (s : Sign) (a : List Item) → Stands (CallComes q outer) a → IfSome (at_function (CallOpens (OfStatement outer (Skip q Done))) s) (λ next. Stands next (a ++ at p s ∷ []))
 call_comes_keeps q outer p signs.Input a r = name_keeps q outer p a of_input r
 call_comes_keeps q outer p (signs.Function k) a r = name_keeps q outer p a (of_function k) r
 call_comes_keeps q outer p _ a r = tt
 
-pub call_opens_keeps : (outer : Stack) (c : Code) (p : Place) (s : Sign) (a : List Item) → Stands (CallOpens outer c) a → IfSome (at_open (CallCloses outer c) s) (λ next. Stands next (a ++ at p s ∷ []))
-call_opens_keeps outer c p signs.Open a r = (
+pub call_opens_keeps : (made : Pending) (p : Place) (s : Sign) (a : List Item) → Stands (CallOpens made) a → IfSome (at_open (CallCloses made) s) (λ next. Stands next (a ++ at p s ∷ []))
+call_opens_keeps made p signs.Open a r = (
   r.0,
   r.1 ++ at p signs.Open ∷ [],
   r.2,
-  (λ t u. subst (λ (y : List Item). Writes (Stated false) y c) (sym (append_assoc r.1 (at p signs.Open ∷ []) (at t signs.Close ∷ at u signs.Semicolon ∷ []))) (r.3 p t u)),
+  (λ t. subst (Pends made) (sym (append_assoc r.1 (at p signs.Open ∷ []) (at t signs.Close ∷ []))) (r.3 p t)),
   ap (λ (y : List Item). y ++ at p signs.Open ∷ []) r.4 ∙ append_assoc r.0 r.1 (at p signs.Open ∷ []),
 )
-call_opens_keeps outer c p _ a r = tt
+call_opens_keeps made p _ a r = tt
 
-pub call_closes_keeps : (outer : Stack) (c : Code) (p : Place) (s : Sign) (a : List Item) → Stands (CallCloses outer c) a → IfSome (at_close (Finishing outer c) s) (λ next. Stands next (a ++ at p s ∷ []))
-call_closes_keeps outer c p signs.Close a r = (
+pub call_closes_keeps : (made : Pending) (p : Place) (s : Sign) (a : List Item) → Stands (CallCloses made) a → IfSome (at_close (Finishing made) s) (λ next. Stands next (a ++ at p s ∷ []))
+call_closes_keeps made p signs.Close a r = (
   r.0,
   r.1 ++ at p signs.Close ∷ [],
   r.2,
-  (λ t. subst (λ (y : List Item). Writes (Stated false) y c) (sym (append_assoc r.1 (at p signs.Close ∷ []) (at t signs.Semicolon ∷ []))) (r.3 p t)),
+  r.3 p,
   ap (λ (y : List Item). y ++ at p signs.Close ∷ []) r.4 ∙ append_assoc r.0 r.1 (at p signs.Close ∷ []),
 )
-call_closes_keeps outer c p _ a r = tt
+call_closes_keeps made p _ a r = tt

@@ -7,14 +7,14 @@ use Rattle.c_tree.specs.Tree.{Term, Code, Done, If, While, Block, Cond}
 use Rattle.c_grammar.specs.declared.items.Sign.TheVariants as signs
 use Rattle.c_grammar.specs.declared.items.Item.{Item}
 use Rattle.c_grammar.specs.Ahead.{IsLooser, Loose, IsList, NoElse}
-use Rattle.c_grammar.specs.Grammar.{at, tighter, Prefix, Positive, Negative, Inverse, prefix_sign, Expresses, number, name, group, prefix, loose, binary, update_sign, Shape, Listed, Stated, Chained, Writes, File}
+use Rattle.c_grammar.specs.Grammar.{at, tighter, Prefix, Positive, Negative, Inverse, prefix_sign, Expresses, number, name, group, prefix, loose, binary, update_sign, Qualifier, LocalDeclarator, Shape, Listed, Stated, Chained, Locals, Writes, File}
 use Rattle.c_grammar.specs.Grammar as plain
-use Rattle.c_grammar.specs.Machine.{Frame, Paren, Pre, Left, room, Stack, Braces, Yes, No, ThenOf, ElseOf, LoopOf, Use, ToAssign, ToUpdate, ToAssert, ToChoose, ToLoop, ReadingState, Ready, Ended, Wants, Has, Named, Opens, folded, step}
+use Rattle.c_grammar.specs.Machine.{Frame, Paren, Pre, Left, room, Stack, Braces, Yes, No, ThenOf, ElseOf, LoopOf, Use, ToAssign, ToInitialise, ToUpdate, ToAssert, ToChoose, ToLoop, ReadingState, Ready, NextLocal, Ended, Wants, Has, Named, Opens, folded, step}
 use Rattle.c_grammar.specs.Deep.{depth, opens_more, around, counted, is_deep, is_nested, is_long, Fault, went, guarded}
-use Rattle.c_grammar.specs.Within.{operators_in, more_by, Full, WritesIn, none, more, choice, ends, otherwise, elif, assign, input, call, void_call, update, count, prefix_count, assert, skip, block, while, if_then, if_else}
-use Rattle.c_grammar.proofs.Complete.{Free, free_of, no_else, chain_no_else, looser, settled, folded-list}
+use Rattle.c_grammar.specs.Within.{operators_in, more_by, Full, LocalWithin, uninitialised, initialised, from_call, WritesIn, none, more, choice, local, last_local, next_local, ends, otherwise, elif, assign, input, call, void_call, update, count, prefix_count, assert, skip, block, while, if_then, if_else}
+use Rattle.c_grammar.proofs.Complete.{Free, free_of, no_else, chain_no_else, locals_named, looser, settled, folded-list}
 use Rattle.c_grammar.proofs.CompleteWithin.{takes, prefix_takes, prefix_more, operators_both, expresses_within}
-use Rattle.c_grammar.proofs.StatesWithin.{token, opens_in, group_in, folds_in, depth_folded, full_in, last_token, updates_in, head_in, accepted_in}
+use Rattle.c_grammar.proofs.StatesWithin.{token, opens_in, group_in, folds_in, depth_folded, full_in, last_token, updates_in, head_in, qualified_in, initialiser_in, next_in, accepted_in}
 
 -- ---- an item that is read
 
@@ -98,7 +98,14 @@ room_for (suc j) d e h = (j, refl)
 abbrev pub GoalBack : Shape → List Item → Code → Type 0
 GoalBack Listed ts c = (k : ℕ) (outer : Stack) → IsList outer → k + depth outer ≡ 64 → (n : ℕ) (w : List Item) (f : File) → NoElse w → guarded (Ready outer) n (ts ++ w) ≡ Ok f → WritesIn k Listed ts c
 GoalBack (Stated b) ts c = (k : ℕ) (outer : Stack) → k + depth outer ≡ 64 → (n : ℕ) (w : List Item) (f : File) → Free b w → guarded (Ready outer) n (ts ++ w) ≡ Ok f → WritesIn k (Stated b) ts c
+GoalBack (Locals kind) ts c = (k : ℕ) (outer : Stack) → IsList outer → (w : List Item) (f : File) → guarded (NextLocal kind outer) 0 (ts ++ w) ≡ Ok f → WritesIn k (Locals kind) ts c
 GoalBack Chained ts d = (k : ℕ) (links : List (ℕ × Code)) (n : ℕ) (c : Code) (outer : Stack) → k + (suc (length links) + depth outer) ≡ 64 → (m : ℕ) (w : List Item) (f : File) → guarded (Ready (Yes links n c outer)) m (ts ++ w) ≡ Ok f → WritesIn k Chained ts d
+
+-- a declarator in `main` and what ends it
+local_back : {kind : Qualifier} {ts : List Item} {c : Code} → LocalDeclarator kind ts c → (outer : Stack) (y : Item) (us w : List Item) (f : File) → IsLooser 6 y.sign → guarded (NextLocal kind outer) 0 ((ts ++ y ∷ us) ++ w) ≡ Ok f → LocalWithin kind ts c
+local_back (plain.uninitialised p x) outer y us w f l h = uninitialised p x
+local_back (plain.initialised p q x {kind} {ts} s) outer y us w f l h = initialised p q x (full_back s (ToInitialise kind p x outer) y us w f l (sym (initialiser_in kind p q x outer ((ts ++ y ∷ us) ++ w)) ∙ h))
+local_back (plain.from_call p q r s t x g) outer y us w f l h = from_call p q r s t x g
 
 pub writes_back : {s : Shape} {ts : List Item} {c : Code} → Writes s ts c → GoalBack s ts c
 writes_back plain.none = λ k outer is e m w f fr h. none
@@ -125,6 +132,18 @@ writes_back (plain.choice p n {ts} {us} {vs} {c} {d} {e = g} s t l) = λ k outer
     let h3 = sym (accepted_in second [] n c outer within 0 (vs ++ w) ∙ folds_in outer made 0 (vs ++ w) r) ∙ h2 in
     let third = writes_back l k (folded outer made) (folded-list outer made is) (omega (arith, e, depth_folded outer made is)) 0 w f fr h3 in
     subst (λ (y : ℕ). WritesIn y Listed (at p (signs.GroupIf n) ∷ (ts ++ (us ++ vs))) (Cond n c d g)) (sym j.1) (choice p n first second (subst (λ (y : ℕ). WritesIn y Listed vs g) j.1 third))
+writes_back (plain.local {ts} {us} {vs} {c} {d} g s l) = λ k outer is e m w f fr h.
+    let begins =
+    ap (guarded (Ready outer) m) (append_assoc ts (us ++ vs) w ∙ ap (λ (x : List Item). ts ++ x) (append_assoc us vs w))
+    ∙ qualified_in g outer is m (us ++ (vs ++ w)) (locals_named s (vs ++ w)) in
+    let h1 = sym begins ∙ h in
+    let first = writes_back s k outer is (vs ++ w) f h1 in
+    let h2 = sym (accepted_in first outer is (vs ++ w)) ∙ h1 in
+    local g first (writes_back l k (folded outer c) (folded-list outer c is) (omega (arith, e, depth_folded outer c is)) 0 w f fr h2)
+writes_back (plain.last_local p s) = λ k outer is w f h. last_local p (local_back s outer (at p signs.Semicolon) [] w f tt h)
+writes_back (plain.next_local p {ts} {us} {c} {d} s l) = λ k outer is w f h.
+    let first = local_back s outer (at p signs.Comma) us w f tt h in
+    next_local p first (writes_back l k (folded outer c) (folded-list outer c is) w f (sym (next_in first outer p us w) ∙ h))
 writes_back (plain.ends p) = λ k links n c outer e m w f h. ends p
 writes_back (plain.otherwise p q {ts} {c} s) = λ k links n a outer e m w f h.
     let begins =

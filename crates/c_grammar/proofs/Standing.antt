@@ -8,8 +8,8 @@ use Rattle.c_grammar.specs.declared.items.Sign.{Sign}
 use Rattle.c_grammar.specs.declared.items.Sign.TheVariants as signs
 use Rattle.c_grammar.specs.declared.items.Item.{Item}
 use Rattle.c_grammar.specs.Ahead.{IsList}
-use Rattle.c_grammar.specs.Grammar.{at, tighter, prefix_sign, Expresses, update_sign, count_sign, Callable, Listed, Stated, Writes, Optional, Typed, Qualifier, Unqualified, Counted, Begins, Declarator, Defines, with_true, with_false, Outer, Vars, Later, Declares, Gaps, GapRest, Empty, Body, Main, File, file_of, Forms}
-use Rattle.c_grammar.specs.Machine.{Tailing, Another, Final, Frame, Paren, Pre, Left, room, Stack, Top, Braces, Yes, No, ThenOf, ElseOf, LoopOf, Use, ToAssign, ToUpdate, ToAssert, ToChoose, ToLoop, Sections, Outermost, InPart, InLast, guards_of, Aim, ToPrototype, ToMain, ReadingState, Outside, AfterStatic, AfterExtern, AfterConst, AfterEnum, AfterVoidType, AfterType, Leading, NoWord, StaticWord, ExternWord, ConstWord, TypeWords, OneInt, OneSigned, WholeType, Declaring, Bare, Starting, Negating, Started, Listing, Enumerated, AfterDefine, Defining, NegativeDefining, Enclosing, NegativeEnclosing, Enclosed, Parameters, InParameters, AfterVoid, AfterParameters, Ready, Ended, Wants, Has, Counting, Named, Opens, VoidComes, VoidCloses, CallComes, CallOpens, CallCloses, Finishing, Returning, Returned, Closing, Over}
+use Rattle.c_grammar.specs.Grammar.{at, tighter, prefix_sign, Expresses, update_sign, count_sign, Callable, Listed, Stated, Locals, LocalDeclarator, Writes, Optional, Typed, Qualifier, Unqualified, Constant, Counted, Begins, Declarator, Defines, with_true, with_false, Outer, Vars, Later, Declares, Gaps, GapRest, Empty, Body, Main, File, file_of, Forms}
+use Rattle.c_grammar.specs.Machine.{Tailing, Another, Final, Frame, Paren, Pre, Left, room, Stack, Top, Braces, Yes, No, ThenOf, ElseOf, LoopOf, Use, ToAssign, ToInitialise, ToUpdate, ToAssert, ToChoose, ToLoop, Pending, OfStatement, OfLocal, Sections, Outermost, InPart, InLast, guards_of, Aim, ToPrototype, ToMain, ReadingState, Outside, AfterStatic, AfterExtern, AfterConst, AfterEnum, AfterVoidType, AfterType, Leading, NoWord, StaticWord, ExternWord, ConstWord, TypeWords, OneInt, OneSigned, WholeType, Declaring, Bare, Starting, Negating, Started, Listing, Enumerated, AfterDefine, Defining, NegativeDefining, Enclosing, NegativeEnclosing, Enclosed, Parameters, InParameters, AfterVoid, AfterParameters, Ready, LocalConst, LocalType, NextLocal, LocalNamed, Ended, Wants, Has, Counting, Named, Opens, VoidComes, VoidCloses, CallComes, CallOpens, CallCloses, Finishing, Returning, Returned, Closing, Over, folded}
 
 -- the parts of a group before this one, and its directive
 abbrev pub Begun : List (ℕ × Code) → ℕ → List Item → Type 0
@@ -29,8 +29,22 @@ Read (ThenOf p e outer) a = (q r : Place) × (b ts : List Item) × Read outer b 
 Read (ElseOf p e first outer) a = (q r z : Place) × (b ts us : List Item) × Read outer b × Expresses 6 ts e × Writes (Stated false) us first × (a ≡ b ++ (at p signs.If ∷ at q signs.Open ∷ (ts ++ at r signs.Close ∷ (us ++ at z signs.Else ∷ []))))
 Read (LoopOf p e outer) a = (q r : Place) × (b ts : List Item) × Read outer b × Expresses 6 ts e × (a ≡ b ++ (at p signs.While ∷ at q signs.Open ∷ (ts ++ at r signs.Close ∷ [])))
 
+-- a declaration in `main` up to a name: the stack before it and its items, what its declarators so far make, and that those which may
+-- come next make a list with them
+pub record InDeclaration (kind : Qualifier) (outer : Stack) (a : List Item) : Type 0 where
+  pub before : Stack
+  pub start : List Item
+  pub made : Code
+  pub text : List Item
+  pub is_read : Read before start
+  pub is_list : IsList before
+  pub folds : outer ≡ folded before made
+  pub goes_on : (ts : List Item) (c : Code) → Writes (Locals kind) ts c → Writes Listed (text ++ ts) (followed made c)
+  pub parts : a ≡ start ++ text
+
 abbrev pub Used : Use → List Item → Type 0
 Used (ToAssign p x outer) a = (q : Place) × (b : List Item) × Read outer b × (a ≡ b ++ (at p (signs.Name x) ∷ at q signs.Equals ∷ []))
+Used (ToInitialise kind p x outer) a = (q : Place) × (b : List Item) × InDeclaration kind outer b × (a ≡ b ++ (at p (signs.Name x) ∷ at q signs.Equals ∷ []))
 Used (ToUpdate p x u outer) a = (q : Place) × (b : List Item) × Read outer b × (a ≡ b ++ (at p (signs.Name x) ∷ at q (update_sign u) ∷ []))
 Used (ToAssert p outer) a = (q : Place) × (b : List Item) × Read outer b × (a ≡ b ++ (at p signs.Assert ∷ at q signs.Open ∷ []))
 Used (ToChoose p outer) a = (q : Place) × (b : List Item) × Read outer b × (a ≡ b ++ (at p signs.If ∷ at q signs.Open ∷ []))
@@ -38,6 +52,7 @@ Used (ToLoop p outer) a = (q : Place) × (b : List Item) × Read outer b × (a �
 
 abbrev pub UsedAt : Use → List Item → Type 0
 UsedAt (ToAssign p x outer) a = ⊥
+UsedAt (ToInitialise kind p x outer) a = ⊥
 UsedAt (ToUpdate p x u outer) a = ⊥
 UsedAt (ToAssert p outer) a = (b : List Item) × Read outer b × (a ≡ b ++ at p signs.Assert ∷ [])
 UsedAt (ToChoose p outer) a = (b : List Item) × Read outer b × (a ≡ b ++ at p signs.If ∷ [])
@@ -48,6 +63,15 @@ Framed u [] a = Used u a
 Framed u (Paren ∷ fs) a = (p : Place) × (b : List Item) × Framed u fs b × (a ≡ b ++ at p signs.Open ∷ [])
 Framed u (Pre v ∷ fs) a = (p : Place) × (b : List Item) × Framed u fs b × (a ≡ b ++ at p (prefix_sign v) ∷ [])
 Framed u (Left op x ∷ fs) a = (p : Place) × (b us : List Item) × Framed u fs b × Expresses (suc (tighter op)) us x × (tighter op < room fs) × (a ≡ b ++ (us ++ at p (signs.Oper op) ∷ []))
+
+-- what stands before what is pending, and its own items
+abbrev pub StandsBefore : Pending → List Item → Type 0
+StandsBefore (OfStatement outer c) b = Read outer b
+StandsBefore (OfLocal kind outer c) b = InDeclaration kind outer b
+
+abbrev pub Pends : Pending → List Item → Type 0
+Pends (OfStatement outer c) ts = (s : Place) → Writes (Stated false) (ts ++ at s signs.Semicolon ∷ []) c
+Pends (OfLocal kind outer c) ts = LocalDeclarator kind ts c
 
 -- what is put into the stack: in a list any list, elsewhere one statement
 abbrev pub Piece : Bool → Stack → List Item → Code → Type 0
@@ -86,6 +110,11 @@ pub data Words : TypeWords → List Item → Type 0 where
   one_int : (p : Place) → Words OneInt (at p signs.Int ∷ [])
   one_signed : (p : Place) → Words OneSigned (at p signs.Signed ∷ [])
   whole_type : {us : List Item} → Typed us → Words WholeType us
+
+-- the same in `main`, perhaps behind `const`
+pub data LocalWords : Qualifier → TypeWords → List Item → Type 0 where
+  variable_words : {t : TypeWords} {us : List Item} → Words t us → LocalWords Unqualified t us
+  constant_words : (p : Place) {t : TypeWords} {us : List Item} → Words t us → LocalWords Constant t (at p signs.Const ∷ us)
 
 -- `const`, perhaps behind `static`
 pub data Consts : List Item → Type 0 where
@@ -142,6 +171,10 @@ Stands (InParameters aim) a = Follows a (λ w f. (r : Place) → ParametersTail 
 Stands (AfterVoid aim) a = Follows a (λ w f. (r t : Place) → ParametersTail aim (at r signs.Open ∷ at t signs.Void ∷ w) f)
 Stands (AfterParameters aim) a = Follows a (λ w f. (r s : Place) (us : List Item) → Optional signs.Void us → ParametersTail aim (at r signs.Open ∷ (us ++ at s signs.Close ∷ w)) f)
 Stands (Ready outer) a = Read outer a
+Stands (LocalConst outer) a = (p : Place) × (b : List Item) × Read outer b × IsList outer × (a ≡ b ++ at p signs.Const ∷ [])
+Stands (LocalType kind words outer) a = (b us : List Item) × Read outer b × IsList outer × LocalWords kind words us × (a ≡ b ++ us)
+Stands (NextLocal kind outer) a = InDeclaration kind outer a
+Stands (LocalNamed kind p x outer) a = (b : List Item) × InDeclaration kind outer b × (a ≡ b ++ at p (signs.Name x) ∷ [])
 Stands (Ended outer c) a = (b ts : List Item) × Read outer b × Piece false outer ts c × (a ≡ b ++ ts)
 Stands (Wants fs u) a = Framed u fs a
 Stands (Has fs u e) a = (b ts : List Item) × Framed u fs b × Expresses 0 ts e × (a ≡ b ++ ts)
@@ -151,9 +184,9 @@ Stands (Opens u) a = UsedAt u a
 Stands (VoidComes p outer) a = (b : List Item) × Read outer b × (a ≡ b ++ at p signs.Open ∷ [])
 Stands (VoidCloses p outer) a = (q : Place) × (b : List Item) × Read outer b × (a ≡ b ++ (at p signs.Open ∷ at q signs.Void ∷ []))
 Stands (CallComes p outer) a = (q r : Place) × (b : List Item) × Read outer b × (a ≡ b ++ (at p signs.Open ∷ at q signs.Void ∷ at r signs.Close ∷ []))
-Stands (CallOpens outer c) a = (b ts : List Item) × Read outer b × ((q r s : Place) → Writes (Stated false) (ts ++ at q signs.Open ∷ at r signs.Close ∷ at s signs.Semicolon ∷ []) c) × (a ≡ b ++ ts)
-Stands (CallCloses outer c) a = (b ts : List Item) × Read outer b × ((q r : Place) → Writes (Stated false) (ts ++ at q signs.Close ∷ at r signs.Semicolon ∷ []) c) × (a ≡ b ++ ts)
-Stands (Finishing outer c) a = (b ts : List Item) × Read outer b × ((q : Place) → Writes (Stated false) (ts ++ at q signs.Semicolon ∷ []) c) × (a ≡ b ++ ts)
+Stands (CallOpens made) a = (b ts : List Item) × StandsBefore made b × ((q r : Place) → Pends made (ts ++ at q signs.Open ∷ at r signs.Close ∷ [])) × (a ≡ b ++ ts)
+Stands (CallCloses made) a = (b ts : List Item) × StandsBefore made b × ((q : Place) → Pends made (ts ++ at q signs.Close ∷ [])) × (a ≡ b ++ ts)
+Stands (Finishing made) a = (b ts : List Item) × StandsBefore made b × Pends made ts × (a ≡ b ++ ts)
 Stands (Returning r ds made) a = (n : ℤ) (s q p : Place) (w : List Item) → Empty Gaps w → Forms (a ++ at s (signs.Number n) ∷ at q signs.Semicolon ∷ at p signs.RightBrace ∷ w) (file_of ds (followed made (Skip r Done)) p)
 Stands (Returned ds made) a = (q p : Place) (w : List Item) → Empty Gaps w → Forms (a ++ at q signs.Semicolon ∷ at p signs.RightBrace ∷ w) (file_of ds made p)
 Stands (Closing ds made) a = (p : Place) (w : List Item) → Empty Gaps w → Forms (a ++ at p signs.RightBrace ∷ w) (file_of ds made p)

@@ -1,10 +1,13 @@
 -- What is known of names behind one item more.
-use Rattle.std.proofs.Common.{◌≡◌, List, [], ◌∷◌, ◌++◌, Option, Some, None, refl, sym, ap, ◌∙◌}
+use Rattle.std.proofs.Common.{◌≡◌, ℕ, Bool, List, [], ◌∷◌, ◌++◌, Option, Some, None, refl, sym, ap, ◌∙◌}
 use Rattle.c_grammar.specs.declared.constants.NameKind.{NameKind}
 use Rattle.c_grammar.specs.declared.constants.NameKind.TheVariants as kinds
 use Rattle.c_grammar.specs.declared.constants.Track.{Track}
 use Rattle.c_grammar.specs.declared.items.Item.{Item}
-use Rattle.c_grammar.specs.Constants.{kind_behind, kind_after, last_from, IsTrack}
+use Rattle.c_grammar.specs.Constants.{kind_behind, kind_after, last_from}
+use Rattle.c_grammar.specs.Functions.{has_sign}
+use Rattle.c_grammar.specs.Locals.{is_declaring, declares_behind, opened_by, open_from, open_behind}
+use Rattle.c_grammar.specs.Changes.{IsTrack}
 
 last_more : (last : Option Item) (before : List Item) (x : Item) → last_from last (before ++ x ∷ []) ≡ Some x
 last_more last [] x = refl
@@ -14,8 +17,20 @@ after_more : (kind : NameKind) (before : List Item) (x : Item) → kind_after ki
 after_more kind [] x = refl
 after_more kind (y ∷ ys) x = after_more (kind_behind kind y.sign) ys x
 
-pub track_more : (before : List Item) (x : Item) (old new : Track) → IsTrack before old → new.last ≡ Some x → new.kind ≡ kind_behind old.kind x.sign → IsTrack (before ++ x ∷ []) new
-track_more before x old new h last kind = record {
+open_more : (last : Option Item) (opened : Option ℕ) (before : List Item) (x : Item)
+    → open_from (has_sign is_declaring last) opened (before ++ x ∷ []) ≡ opened_by (has_sign is_declaring (last_from last before)) (open_from (has_sign is_declaring last) opened before) x.sign
+open_more last opened [] x = refl
+open_more last opened (y ∷ ys) x = open_more (Some y) (opened_by (has_sign is_declaring last) opened y.sign) ys x
+
+-- what follows an item opens, where this stands behind a sign that declares or not
+opened_more : (before : List Item) (x : Item) (old : Track) (declares : Bool) → IsTrack before old → declares ≡ declares_behind before → opened_by declares old.opened x.sign ≡ open_behind (before ++ x ∷ [])
+opened_more before x old declares h d =
+    ap (λ (b : Bool). opened_by b old.opened x.sign) d ∙ ap (λ (o : Option ℕ). opened_by (declares_behind before) o x.sign) h.opened ∙ sym (open_more None None before x)
+
+pub track_more : (before : List Item) (x : Item) (old new : Track) (declares : Bool) → IsTrack before old → declares ≡ declares_behind before
+    → new.last ≡ Some x → new.kind ≡ kind_behind old.kind x.sign → new.opened ≡ opened_by declares old.opened x.sign → IsTrack (before ++ x ∷ []) new
+track_more before x old new declares h d last kind opened = record {
   last = last ∙ sym (last_more None before x);
   kind = kind ∙ ap (λ (k : NameKind). kind_behind k x.sign) h.kind ∙ sym (after_more kinds.Variable before x);
+  opened = opened ∙ opened_more before x old declares h d;
 }

@@ -110,36 +110,6 @@ pub data Callable : Sign → Type 0 where
   of_input : Callable signs.Input
   of_function : (k : ℕ) → Callable (signs.Function k)
 
--- a list; a statement, and whether it ends in an `if` without `else`; what closes a group, with its later parts
-pub data Shape : Type 0 where
-  Listed : Shape
-  Stated : (dangles : Bool) → Shape
-  Chained : Shape
-
--- a statement is a list of one, and an absent `else` is the empty list; `#elif` opens a choice in the no side
-pub data Writes : Shape → List Item → Code → Type 0 where
-  none : Writes Listed [] Done
-  more : {b : Bool} {ts us : List Item} {c d : Code} → Writes (Stated b) ts c → Writes Listed us d → Writes Listed (ts ++ us) (followed c d)
-  choice : (p : Place) (n : ℕ) {ts us vs : List Item} {c d e : Code} → Writes Listed ts c → Writes Chained us d → Writes Listed vs e → Writes Listed (at p (signs.GroupIf n) ∷ (ts ++ (us ++ vs))) (Cond n c d e)
-  ends : (p : Place) → Writes Chained (at p signs.GroupEnd ∷ []) Done
-  otherwise : (p q : Place) {ts : List Item} {c : Code} → Writes Listed ts c → Writes Chained (at p signs.GroupElse ∷ (ts ++ at q signs.GroupEnd ∷ [])) c
-  elif : (p : Place) (n : ℕ) {ts us : List Item} {c d : Code} → Writes Listed ts c → Writes Chained us d → Writes Chained (at p (signs.GroupElif n) ∷ (ts ++ us)) (Cond n c d Done)
-  assign : (p q r : Place) (x : ℕ) {ts : List Item} {e : Term} → Expresses 6 ts e → Writes (Stated false) (at p (signs.Name x) ∷ at q signs.Equals ∷ (ts ++ at r signs.Semicolon ∷ [])) (Assign p x e Done)
-  input : (p q r s t u : Place) (x : ℕ) {f : Sign} → Callable f → Writes (Stated false) (at p (signs.Name x) ∷ at q signs.Equals ∷ at r f ∷ at s signs.Open ∷ at t signs.Close ∷ at u signs.Semicolon ∷ []) (Input p x Done)
-  call : (p q r s : Place) {f : Sign} → Callable f → Writes (Stated false) (at p f ∷ at q signs.Open ∷ at r signs.Close ∷ at s signs.Semicolon ∷ []) (Skip p Done)
-  void_call : (p q r s t u v : Place) {f : Sign} → Callable f → Writes (Stated false) (at p signs.Open ∷ at q signs.Void ∷ at r signs.Close ∷ at s f ∷ at t signs.Open ∷ at u signs.Close ∷ at v signs.Semicolon ∷ []) (Skip p Done)
-  update : (p q r : Place) (x : ℕ) (u : Update) {ts : List Item} {e : Term} → Expresses 6 ts e → Writes (Stated false) (at p (signs.Name x) ∷ at q (update_sign u) ∷ (ts ++ at r signs.Semicolon ∷ [])) (updated p x u e)
-  count : (p q r : Place) (x : ℕ) (u : Count) → Writes (Stated false) (at p (signs.Name x) ∷ at q (count_sign u) ∷ at r signs.Semicolon ∷ []) (changed_by_one p x u)
-  prefix_count : (p q r : Place) (x : ℕ) (u : Count) → Writes (Stated false) (at p (count_sign u) ∷ at q (signs.Name x) ∷ at r signs.Semicolon ∷ []) (changed_by_one p x u)
-  assert : (p q r s : Place) {ts : List Item} {e : Term} → Expresses 6 ts e → Writes (Stated false) (at p signs.Assert ∷ at q signs.Open ∷ (ts ++ at r signs.Close ∷ at s signs.Semicolon ∷ [])) (Assert p e Done)
-  skip : (p : Place) → Writes (Stated false) (at p signs.Semicolon ∷ []) (Skip p Done)
-  block : (p q : Place) {ts : List Item} {c : Code} → Writes Listed ts c → Writes (Stated false) (at p signs.LeftBrace ∷ (ts ++ at q signs.RightBrace ∷ [])) (Block p c Done)
-  while : (p q r : Place) {b : Bool} {ts us : List Item} {e : Term} {c : Code} → Expresses 6 ts e → Writes (Stated b) us c → Writes (Stated b) (at p signs.While ∷ at q signs.Open ∷ (ts ++ at r signs.Close ∷ us)) (While p e c Done)
-  if_then : (p q r : Place) {b : Bool} {ts us : List Item} {e : Term} {c : Code} → Expresses 6 ts e → Writes (Stated b) us c → Writes (Stated true) (at p signs.If ∷ at q signs.Open ∷ (ts ++ at r signs.Close ∷ us)) (If p e c Done Done)
-  if_else : (p q r s : Place) {b : Bool} {ts us vs : List Item} {e : Term} {c d : Code} → Expresses 6 ts e → Writes (Stated false) us c → Writes (Stated b) vs d → Writes (Stated b) (at p signs.If ∷ at q signs.Open ∷ (ts ++ at r signs.Close ∷ (us ++ at s signs.Else ∷ vs))) (If p e c d Done)
-
--- ---- declarations
-
 -- at most one item, with this sign
 pub data Optional : Sign → List Item → Type 0 where
   absent : (s : Sign) → Optional s []
@@ -160,6 +130,55 @@ pub data Qualifier : Type 0 where
   Constant : Qualifier
   Counted : (last : ℤ) → Qualifier
 
+-- a type, and for constants `const` once, before or behind it (6.7.3)
+pub data Qualified : Qualifier → List Item → Type 0 where
+  unqualified : {us : List Item} → Typed us → Qualified Unqualified us
+  const_before : (p : Place) {us : List Item} → Typed us → Qualified Constant (at p signs.Const ∷ us)
+  const_behind : (p : Place) {us : List Item} → Typed us → Qualified Constant (us ++ at p signs.Const ∷ [])
+
+-- a declarator in `main` (6.7.6), read as a statement at its name: without an initialiser the value is indeterminate (6.7.9p10),
+-- which is any value, as that of an input is; a constant has an initialiser
+pub data LocalDeclarator : Qualifier → List Item → Code → Type 0 where
+  uninitialised : (p : Place) (x : ℕ) → LocalDeclarator Unqualified (at p (signs.Name x) ∷ []) (Input p x Done)
+  initialised : (p q : Place) (x : ℕ) {kind : Qualifier} {ts : List Item} {e : Term} → Expresses 6 ts e → LocalDeclarator kind (at p (signs.Name x) ∷ at q signs.Equals ∷ ts) (Assign p x e Done)
+  from_call : (p q r s t : Place) (x : ℕ) {kind : Qualifier} {f : Sign} → Callable f → LocalDeclarator kind (at p (signs.Name x) ∷ at q signs.Equals ∷ at r f ∷ at s signs.Open ∷ at t signs.Close ∷ []) (Input p x Done)
+
+-- a list; a statement, and whether it ends in an `if` without `else`; what closes a group, with its later parts; the declarators
+-- of a declaration in `main`, up to its semicolon
+pub data Shape : Type 0 where
+  Listed : Shape
+  Stated : (dangles : Bool) → Shape
+  Chained : Shape
+  Locals : (kind : Qualifier) → Shape
+
+-- a statement is a list of one, and an absent `else` is the empty list; `#elif` opens a choice in the no side; a declaration is
+-- a list of a statement for each of its declarators
+pub data Writes : Shape → List Item → Code → Type 0 where
+  none : Writes Listed [] Done
+  more : {b : Bool} {ts us : List Item} {c d : Code} → Writes (Stated b) ts c → Writes Listed us d → Writes Listed (ts ++ us) (followed c d)
+  choice : (p : Place) (n : ℕ) {ts us vs : List Item} {c d e : Code} → Writes Listed ts c → Writes Chained us d → Writes Listed vs e → Writes Listed (at p (signs.GroupIf n) ∷ (ts ++ (us ++ vs))) (Cond n c d e)
+  local : {ts us vs : List Item} {c d : Code} {kind : Qualifier} → Qualified kind ts → Writes (Locals kind) us c → Writes Listed vs d → Writes Listed (ts ++ (us ++ vs)) (followed c d)
+  last_local : (p : Place) {ts : List Item} {c : Code} {kind : Qualifier} → LocalDeclarator kind ts c → Writes (Locals kind) (ts ++ at p signs.Semicolon ∷ []) c
+  next_local : (p : Place) {ts us : List Item} {c d : Code} {kind : Qualifier} → LocalDeclarator kind ts c → Writes (Locals kind) us d → Writes (Locals kind) (ts ++ at p signs.Comma ∷ us) (followed c d)
+  ends : (p : Place) → Writes Chained (at p signs.GroupEnd ∷ []) Done
+  otherwise : (p q : Place) {ts : List Item} {c : Code} → Writes Listed ts c → Writes Chained (at p signs.GroupElse ∷ (ts ++ at q signs.GroupEnd ∷ [])) c
+  elif : (p : Place) (n : ℕ) {ts us : List Item} {c d : Code} → Writes Listed ts c → Writes Chained us d → Writes Chained (at p (signs.GroupElif n) ∷ (ts ++ us)) (Cond n c d Done)
+  assign : (p q r : Place) (x : ℕ) {ts : List Item} {e : Term} → Expresses 6 ts e → Writes (Stated false) (at p (signs.Name x) ∷ at q signs.Equals ∷ (ts ++ at r signs.Semicolon ∷ [])) (Assign p x e Done)
+  input : (p q r s t u : Place) (x : ℕ) {f : Sign} → Callable f → Writes (Stated false) (at p (signs.Name x) ∷ at q signs.Equals ∷ at r f ∷ at s signs.Open ∷ at t signs.Close ∷ at u signs.Semicolon ∷ []) (Input p x Done)
+  call : (p q r s : Place) {f : Sign} → Callable f → Writes (Stated false) (at p f ∷ at q signs.Open ∷ at r signs.Close ∷ at s signs.Semicolon ∷ []) (Skip p Done)
+  void_call : (p q r s t u v : Place) {f : Sign} → Callable f → Writes (Stated false) (at p signs.Open ∷ at q signs.Void ∷ at r signs.Close ∷ at s f ∷ at t signs.Open ∷ at u signs.Close ∷ at v signs.Semicolon ∷ []) (Skip p Done)
+  update : (p q r : Place) (x : ℕ) (u : Update) {ts : List Item} {e : Term} → Expresses 6 ts e → Writes (Stated false) (at p (signs.Name x) ∷ at q (update_sign u) ∷ (ts ++ at r signs.Semicolon ∷ [])) (updated p x u e)
+  count : (p q r : Place) (x : ℕ) (u : Count) → Writes (Stated false) (at p (signs.Name x) ∷ at q (count_sign u) ∷ at r signs.Semicolon ∷ []) (changed_by_one p x u)
+  prefix_count : (p q r : Place) (x : ℕ) (u : Count) → Writes (Stated false) (at p (count_sign u) ∷ at q (signs.Name x) ∷ at r signs.Semicolon ∷ []) (changed_by_one p x u)
+  assert : (p q r s : Place) {ts : List Item} {e : Term} → Expresses 6 ts e → Writes (Stated false) (at p signs.Assert ∷ at q signs.Open ∷ (ts ++ at r signs.Close ∷ at s signs.Semicolon ∷ [])) (Assert p e Done)
+  skip : (p : Place) → Writes (Stated false) (at p signs.Semicolon ∷ []) (Skip p Done)
+  block : (p q : Place) {ts : List Item} {c : Code} → Writes Listed ts c → Writes (Stated false) (at p signs.LeftBrace ∷ (ts ++ at q signs.RightBrace ∷ [])) (Block p c Done)
+  while : (p q r : Place) {b : Bool} {ts us : List Item} {e : Term} {c : Code} → Expresses 6 ts e → Writes (Stated b) us c → Writes (Stated b) (at p signs.While ∷ at q signs.Open ∷ (ts ++ at r signs.Close ∷ us)) (While p e c Done)
+  if_then : (p q r : Place) {b : Bool} {ts us : List Item} {e : Term} {c : Code} → Expresses 6 ts e → Writes (Stated b) us c → Writes (Stated true) (at p signs.If ∷ at q signs.Open ∷ (ts ++ at r signs.Close ∷ us)) (If p e c Done Done)
+  if_else : (p q r s : Place) {b : Bool} {ts us vs : List Item} {e : Term} {c d : Code} → Expresses 6 ts e → Writes (Stated false) us c → Writes (Stated b) vs d → Writes (Stated b) (at p signs.If ∷ at q signs.Open ∷ (ts ++ at r signs.Close ∷ (us ++ at s signs.Else ∷ vs))) (If p e c d Done)
+
+-- ---- declarations
+
 -- the first constant that is counted is 0
 abbrev pub uncounted : Qualifier
 uncounted = Counted (negsuc 0)
@@ -169,12 +188,6 @@ abbrev pub behind : Qualifier → ℤ → Qualifier
 behind Unqualified n = Unqualified
 behind Constant n = Constant
 behind (Counted last) n = Counted n
-
--- a type, and for constants `const` once, before or behind it (6.7.3)
-pub data Qualified : Qualifier → List Item → Type 0 where
-  unqualified : {us : List Item} → Typed us → Qualified Unqualified us
-  const_before : (p : Place) {us : List Item} → Typed us → Qualified Constant (at p signs.Const ∷ us)
-  const_behind : (p : Place) {us : List Item} → Typed us → Qualified Constant (us ++ at p signs.Const ∷ [])
 
 -- what a declaration begins with: its type, and before it at most one item with this sign; or `enum {`
 pub data Begins : Sign → Qualifier → List Item → Type 0 where

@@ -36,13 +36,19 @@ pub data Stack : Type 0 where
   ElseOf : (p : Place) (e : Term) (first : Code) (outer : Stack) → Stack
   LoopOf : (p : Place) (e : Term) (outer : Stack) → Stack
 
--- what an expression is for
+-- what an expression is for; the initialiser of a variable that `main` declares has what its declaration declares
 pub data Use : Type 0 where
   ToAssign : (p : Place) (x : ℕ) (outer : Stack) → Use
+  ToInitialise : (kind : Qualifier) (p : Place) (x : ℕ) (outer : Stack) → Use
   ToUpdate : (p : Place) (x : ℕ) (u : Update) (outer : Stack) → Use
   ToAssert : (p : Place) (outer : Stack) → Use
   ToChoose : (p : Place) (outer : Stack) → Use
   ToLoop : (p : Place) (outer : Stack) → Use
+
+-- what is read but for its end: a statement, or a declarator in `main`
+pub data Pending : Type 0 where
+  OfStatement : (outer : Stack) (c : Code) → Pending
+  OfLocal : (kind : Qualifier) (outer : Stack) (c : Code) → Pending
 
 -- the groups around declarations: a part with a condition, and the guards before it; the last part, with its guards
 pub data Sections : Type 0 where
@@ -112,6 +118,11 @@ pub data ReadingState : Type 0 where
   AfterParameters : (aim : Aim) → ReadingState
   -- a statement may begin
   Ready : (outer : Stack) → ReadingState
+  -- a declaration in `main`: behind `const`; behind words of its type; a declarator comes; behind its name
+  LocalConst : (outer : Stack) → ReadingState
+  LocalType : (kind : Qualifier) (words : TypeWords) (outer : Stack) → ReadingState
+  NextLocal : (kind : Qualifier) (outer : Stack) → ReadingState
+  LocalNamed : (kind : Qualifier) (p : Place) (x : ℕ) (outer : Stack) → ReadingState
   -- a statement has ended; an `else` may come
   Ended : (outer : Stack) (c : Code) → ReadingState
   Wants : (fs : List Frame) (u : Use) → ReadingState
@@ -124,17 +135,29 @@ pub data ReadingState : Type 0 where
   VoidComes : (p : Place) (outer : Stack) → ReadingState
   VoidCloses : (p : Place) (outer : Stack) → ReadingState
   CallComes : (p : Place) (outer : Stack) → ReadingState
-  -- the parentheses of a call, which makes this statement
-  CallOpens : (outer : Stack) (c : Code) → ReadingState
-  CallCloses : (outer : Stack) (c : Code) → ReadingState
-  -- a semicolon ends the statement
-  Finishing : (outer : Stack) (c : Code) → ReadingState
+  -- the parentheses of a call, which makes this statement or declarator
+  CallOpens : (made : Pending) → ReadingState
+  CallCloses : (made : Pending) → ReadingState
+  -- a semicolon ends the statement or the declaration, and a comma the declarator
+  Finishing : (made : Pending) → ReadingState
   -- the end of `main`: after `return`, after its number, and before the closing brace
   Returning : (p : Place) (ds : List Declared) (made : Code) → ReadingState
   Returned : (ds : List Declared) (made : Code) → ReadingState
   Closing : (ds : List Declared) (made : Code) → ReadingState
   -- `main` is closed; the groups that are open
   Over : (f : File) (parts : List Tailing) → ReadingState
+
+-- ---- what is open
+
+-- the statement is put where it belongs, and no `else` comes
+abbrev pub folded : Stack → Code → Stack
+folded (Top ds made) c = Top ds (followed made c)
+folded (Braces p made outer) c = Braces p (followed made c) outer
+folded (Yes links n made outer) c = Yes links n (followed made c) outer
+folded (No links n first made outer) c = No links n first (followed made c) outer
+folded (ThenOf p e outer) c = folded outer (If p e c Done Done)
+folded (ElseOf p e first outer) c = folded outer (If p e first c Done)
+folded (LoopOf p e outer) c = folded outer (While p e c Done)
 
 -- ---- expressions
 
@@ -151,7 +174,8 @@ prefix_of Sub = Some Negative
 prefix_of _ = None
 
 abbrev pub input_of : List Frame → Use → Option ReadingState
-input_of [] (ToAssign p x outer) = Some (CallOpens outer (Input p x Done))
+input_of [] (ToAssign p x outer) = Some (CallOpens (OfStatement outer (Input p x Done)))
+input_of [] (ToInitialise kind p x outer) = Some (CallOpens (OfLocal kind outer (Input p x Done)))
 input_of _ _ = None
 
 abbrev pub want : List Frame → Use → Sign → Option ReadingState
@@ -166,8 +190,9 @@ want fs u _ = None
 
 abbrev pub tested : Use → Term → Option ReadingState
 tested (ToAssign p x outer) e = None
+tested (ToInitialise kind p x outer) e = None
 tested (ToUpdate p x u outer) e = None
-tested (ToAssert p outer) e = Some (Finishing outer (Assert p e Done))
+tested (ToAssert p outer) e = Some (Finishing (OfStatement outer (Assert p e Done)))
 tested (ToChoose p outer) e = Some (Ready (ThenOf p e outer))
 tested (ToLoop p outer) e = Some (Ready (LoopOf p e outer))
 
@@ -179,6 +204,7 @@ closed_by (Left op a ∷ fs) u e = None
 
 abbrev pub assigned : Use → Term → Option ReadingState
 assigned (ToAssign p x outer) e = Some (Ended outer (Assign p x e Done))
+assigned (ToInitialise kind p x outer) e = Some (Ready (folded outer (Assign p x e Done)))
 assigned (ToUpdate p x u outer) e = Some (Ended outer (updated p x u e))
 assigned (ToAssert p outer) e = None
 assigned (ToChoose p outer) e = None
@@ -188,23 +214,27 @@ abbrev pub ended_by : List Frame → Use → Term → Option ReadingState
 ended_by [] u e = assigned u e
 ended_by (f ∷ fs) u e = None
 
+-- another declarator comes
+abbrev pub initialised : Use → Term → Option ReadingState
+initialised (ToInitialise kind p x outer) e = Some (NextLocal kind (folded outer (Assign p x e Done)))
+initialised (ToAssign p x outer) e = None
+initialised (ToUpdate p x u outer) e = None
+initialised (ToAssert p outer) e = None
+initialised (ToChoose p outer) e = None
+initialised (ToLoop p outer) e = None
+
+abbrev pub followed_by : List Frame → Use → Term → Option ReadingState
+followed_by [] u e = initialised u e
+followed_by (f ∷ fs) u e = None
+
 abbrev pub have : List Frame → Use → Term → Sign → Option ReadingState
 have fs u e signs.Close = closed_by (settle 6 fs e).0 u (settle 6 fs e).1
 have fs u e (signs.Oper op) = Some (Wants (Left op (settle (suc (tighter op)) fs e).1 ∷ (settle (suc (tighter op)) fs e).0) u)
 have fs u e signs.Semicolon = ended_by (settle 6 fs e).0 u (settle 6 fs e).1
+have fs u e signs.Comma = followed_by (settle 6 fs e).0 u (settle 6 fs e).1
 have fs u e _ = None
 
 -- ---- statements
-
--- the statement is put where it belongs, and no `else` comes
-abbrev pub folded : Stack → Code → Stack
-folded (Top ds made) c = Top ds (followed made c)
-folded (Braces p made outer) c = Braces p (followed made c) outer
-folded (Yes links n made outer) c = Yes links n (followed made c) outer
-folded (No links n first made outer) c = No links n first (followed made c) outer
-folded (ThenOf p e outer) c = folded outer (If p e c Done Done)
-folded (ElseOf p e first outer) c = folded outer (If p e first c Done)
-folded (LoopOf p e outer) c = folded outer (While p e c Done)
 
 -- the nearest `if` that an `else` may belong to
 abbrev pub else_of : Stack → Code → Option ReadingState
@@ -252,10 +282,24 @@ group_end (Yes links n made outer) = Some (Ended outer (linked links (Cond n mad
 group_end (No links n first made outer) = Some (Ended outer (linked links (Cond n first made Done)))
 group_end _ = None
 
+-- a declaration stands in a list
+abbrev pub in_list : Stack → ReadingState → Option ReadingState
+in_list (Top ds made) next = Some next
+in_list (Braces p made outer) next = Some next
+in_list (Yes links n made outer) next = Some next
+in_list (No links n first made outer) next = Some next
+in_list (ThenOf p e outer) next = None
+in_list (ElseOf p e first outer) next = None
+in_list (LoopOf p e outer) next = None
+
 abbrev pub begin : Stack → Place → Sign → Option ReadingState
 begin outer p (signs.Name x) = Some (Named p x outer)
-begin outer p signs.Input = Some (CallOpens outer (Skip p Done))
-begin outer p (signs.Function k) = Some (CallOpens outer (Skip p Done))
+begin outer p signs.Const = in_list outer (LocalConst outer)
+begin outer p signs.Int = in_list outer (LocalType Unqualified OneInt outer)
+begin outer p signs.Int32 = in_list outer (LocalType Unqualified WholeType outer)
+begin outer p signs.Signed = in_list outer (LocalType Unqualified OneSigned outer)
+begin outer p signs.Input = Some (CallOpens (OfStatement outer (Skip p Done)))
+begin outer p (signs.Function k) = Some (CallOpens (OfStatement outer (Skip p Done)))
 begin outer p signs.Open = Some (VoidComes p outer)
 begin outer p signs.Semicolon = Some (Ended outer (Skip p Done))
 begin outer p signs.PlusPlus = Some (Counting p Raise outer)
@@ -283,13 +327,51 @@ named p x outer signs.MinusEquals = Some (Wants [] (ToUpdate p x Difference oute
 named p x outer signs.StarEquals = Some (Wants [] (ToUpdate p x Product outer))
 named p x outer signs.SlashEquals = Some (Wants [] (ToUpdate p x Quotient outer))
 named p x outer signs.PercentEquals = Some (Wants [] (ToUpdate p x Remainder outer))
-named p x outer signs.PlusPlus = Some (Finishing outer (changed_by_one p x Raise))
-named p x outer signs.MinusMinus = Some (Finishing outer (changed_by_one p x Lower))
+named p x outer signs.PlusPlus = Some (Finishing (OfStatement outer (changed_by_one p x Raise)))
+named p x outer signs.MinusMinus = Some (Finishing (OfStatement outer (changed_by_one p x Lower)))
 named p x outer _ = None
 
 abbrev pub counting : Place → Count → Stack → Sign → Option ReadingState
-counting p u outer (signs.Name x) = Some (Finishing outer (changed_by_one p x u))
+counting p u outer (signs.Name x) = Some (Finishing (OfStatement outer (changed_by_one p x u)))
 counting p u outer _ = None
+
+-- the end of a declarator in `main`
+abbrev pub local_end : Qualifier → Stack → Code → Sign → Option ReadingState
+local_end kind outer c signs.Semicolon = Some (Ready (folded outer c))
+local_end kind outer c signs.Comma = Some (NextLocal kind (folded outer c))
+local_end kind outer c _ = None
+
+-- the first word of the type of a constant
+abbrev pub const_word : Stack → Sign → Option ReadingState
+const_word outer signs.Int = Some (LocalType Constant OneInt outer)
+const_word outer signs.Int32 = Some (LocalType Constant WholeType outer)
+const_word outer signs.Signed = Some (LocalType Constant OneSigned outer)
+const_word outer _ = None
+
+-- the name of a variable or a constant
+abbrev pub next_local : Qualifier → Stack → Place → Sign → Option ReadingState
+next_local kind outer p (signs.Name x) = Some (LocalNamed kind p x outer)
+next_local kind outer p _ = None
+
+-- `const` behind the type, or a name
+abbrev pub behind_local_type : Qualifier → Stack → Place → Sign → Option ReadingState
+behind_local_type Unqualified outer p signs.Const = Some (NextLocal Constant outer)
+behind_local_type kind outer p s = next_local kind outer p s
+
+-- another word of the type, or what follows it
+abbrev pub local_type : Qualifier → Stack → Place → Sign → TypeWords → Option ReadingState
+local_type kind outer p signs.Signed OneInt = Some (LocalType kind WholeType outer)
+local_type kind outer p signs.Int OneSigned = Some (LocalType kind WholeType outer)
+local_type kind outer p s words = behind_local_type kind outer p s
+
+-- without an initialiser a variable has any value; a constant has one
+abbrev pub without_initialiser : Qualifier → Place → ℕ → Stack → Sign → Option ReadingState
+without_initialiser Unqualified p x outer s = local_end Unqualified outer (Input p x Done) s
+without_initialiser kind p x outer s = None
+
+abbrev pub local_named : Qualifier → Place → ℕ → Stack → Sign → Option ReadingState
+local_named kind p x outer signs.Equals = Some (Wants [] (ToInitialise kind p x outer))
+local_named kind p x outer s = without_initialiser kind p x outer s
 
 -- the state, where it is this sign
 abbrev pub at_open : ReadingState → Sign → Option ReadingState
@@ -303,6 +385,11 @@ at_close next _ = None
 abbrev pub at_semicolon : ReadingState → Sign → Option ReadingState
 at_semicolon next signs.Semicolon = Some next
 at_semicolon next _ = None
+
+-- the end of a statement or of a declarator
+abbrev pub finishing : Pending → Sign → Option ReadingState
+finishing (OfStatement outer c) s = at_semicolon (Ended outer c) s
+finishing (OfLocal kind outer c) s = local_end kind outer c s
 
 abbrev pub at_void : ReadingState → Sign → Option ReadingState
 at_void next signs.Void = Some next
@@ -547,6 +634,10 @@ step (InParameters aim) p s = in_parameters aim s
 step (AfterVoid aim) p s = at_close (AfterParameters aim) s
 step (AfterParameters aim) p s = after_parameters aim s
 step (Ready outer) p s = begin outer p s
+step (LocalConst outer) p s = const_word outer s
+step (LocalType kind words outer) p s = local_type kind outer p s words
+step (NextLocal kind outer) p s = next_local kind outer p s
+step (LocalNamed kind q x outer) p s = local_named kind q x outer s
 step (Ended outer c) p s = on outer c p s
 step (Wants fs u) p s = want fs u s
 step (Has fs u e) p s = have fs u e s
@@ -555,10 +646,10 @@ step (Named q x outer) p s = named q x outer s
 step (Opens u) p s = at_open (Wants [] u) s
 step (VoidComes q outer) p s = at_void (VoidCloses q outer) s
 step (VoidCloses q outer) p s = at_close (CallComes q outer) s
-step (CallComes q outer) p s = at_function (CallOpens outer (Skip q Done)) s
-step (CallOpens outer c) p s = at_open (CallCloses outer c) s
-step (CallCloses outer c) p s = at_close (Finishing outer c) s
-step (Finishing outer c) p s = at_semicolon (Ended outer c) s
+step (CallComes q outer) p s = at_function (CallOpens (OfStatement outer (Skip q Done))) s
+step (CallOpens made) p s = at_open (CallCloses made) s
+step (CallCloses made) p s = at_close (Finishing made) s
+step (Finishing made) p s = finishing made s
 step (Returning q ds made) p s = returning q ds made s
 step (Returned ds made) p s = at_semicolon (Closing ds made) s
 step (Closing ds made) p s = closing ds made p s

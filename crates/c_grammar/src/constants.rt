@@ -4,8 +4,10 @@
 ghost use Rattle.std.specs.Prelude.{◌≡◌, List, [], ◌∷◌, ◌++◌};
 ghost use Rattle.c_grammar.specs.declared.constants.NameKind.TheVariants as kinds;
 ghost use Rattle.c_grammar.specs.declared.items.Item as items;
+ghost use Rattle.c_grammar.specs.Changes as changes;
 ghost use Rattle.c_grammar.specs.Constants as specs;
 ghost use Rattle.c_grammar.specs.Functions as functions;
+ghost use Rattle.c_grammar.specs.Locals as locals;
 
 use crate::items::{Item, Sign};
 use fam_outer::Place;
@@ -54,7 +56,7 @@ fn kind_behind(kind: NameKind, sign: Sign) -> NameKind
 
 /// Whether the sign changes the name before it.
 fn is_change(sign: Sign) -> bool
-    ensures { result ≡ specs.is_change sign }
+    ensures { result ≡ changes.is_change sign }
 {
     matches!(
         sign,
@@ -71,7 +73,7 @@ fn is_change(sign: Sign) -> bool
 
 /// The name with its place, where it is changed.
 fn name_at(is_changed: bool, sign: Sign, place: Place) -> Option<(u32, Place)>
-    ensures { result ≡ specs.name_at is_changed sign place }
+    ensures { result ≡ changes.name_at is_changed sign place }
 {
     match sign {
         Sign::Name(name) if is_changed => Some((name, place)),
@@ -82,7 +84,7 @@ fn name_at(is_changed: bool, sign: Sign, place: Place) -> Option<(u32, Place)>
 /// The name that an item changes together with the one before it, and its place: a name before `=`, `+=` and the like, `++`
 /// or `--`, or behind `++` or `--` (ISO/IEC 9899:2011, 6.5.2.4, 6.5.3.1 and 6.5.16).
 fn changed_behind(last: Option<Item>, item: Item) -> Option<(u32, Place)>
-    ensures { result ≡ specs.changed_behind last item }
+    ensures { result ≡ changes.changed_behind last item }
 {
     let last = last?;
     match last.sign {
@@ -91,36 +93,81 @@ fn changed_behind(last: Option<Item>, item: Item) -> Option<(u32, Place)>
     }
 }
 
-/// What the items so far tell of the next one: the last of them, and what a name is that comes next.
+/// Whether a name in `main` is declared behind the sign (ISO/IEC 9899:2011, 6.7.6): a comma stands there in declarations alone.
+fn is_declaring(sign: Sign) -> bool
+    ensures { result ≡ locals.is_declaring sign }
+{
+    matches!(
+        sign,
+        Sign::Int | Sign::Int32 | Sign::Signed | Sign::Const | Sign::Comma
+    )
+}
+
+/// The name in whose declarator the next item stands, behind a sign that stands behind a word of a declaration or not, in the
+/// declarator of such a name or in none.
+fn opened_by(is_declaring: bool, opened: Option<u32>, sign: Sign) -> Option<u32>
+    ensures { result ≡ locals.opened_by is_declaring opened sign }
+{
+    match sign {
+        Sign::Name(name) if is_declaring => Some(name),
+        Sign::Comma | Sign::Semicolon => None,
+        _ => opened,
+    }
+}
+
+/// What the items so far tell of the next one: the last of them, what a name is that comes next, and the name in whose
+/// declarator it stands.
 #[derive(Clone, Copy, Debug, PartialEq, Eq)]
 pub struct Track {
     last: Option<Item>,
     kind: NameKind,
+    opened: Option<u32>,
 }
 
 impl Track {
     /// Before the first item.
     pub fn new() -> Track
-        ensures { specs.IsTrack [] result }
+        ensures { changes.IsTrack [] result }
     {
         Track {
             last: None,
             kind: NameKind::Variable,
+            opened: None,
         }
     }
 
     /// Goes on behind an item.
     pub fn follow(&mut self, item: Item)
-        ensures { (before : List items.Item) → specs.IsTrack before self.old
-            → specs.IsTrack (before ++ item ∷ []) self.new }
+        ensures { (before : List items.Item) → changes.IsTrack before self.old
+            → changes.IsTrack (before ++ item ∷ []) self.new }
     {
+        self.opened = opened_by(self.declares(), self.opened, item.sign);
         self.last = Some(item);
         self.kind = kind_behind(self.kind, item.sign);
     }
 
+    /// Whether a name that comes next in `main` is declared.
+    pub fn declares(&self) -> bool
+        ensures { (before : List items.Item) → changes.IsTrack before self.now
+            → result ≡ locals.declares_behind before }
+    {
+        match self.last {
+            Some(last) => is_declaring(last.sign),
+            None => false,
+        }
+    }
+
+    /// The name in whose declarator the next item stands, if it stands in one.
+    pub fn open(&self) -> Option<u32>
+        ensures { (before : List items.Item) → changes.IsTrack before self.now
+            → result ≡ locals.open_behind before }
+    {
+        self.opened
+    }
+
     /// Whether a name that comes next is a constant's.
     pub fn is_constant(&self) -> bool
-        ensures { (before : List items.Item) → specs.IsTrack before self.now
+        ensures { (before : List items.Item) → changes.IsTrack before self.now
             → result ≡ specs.is_constant (specs.kind_after kinds.Variable before) }
     {
         is_constant(self.kind)
@@ -128,7 +175,7 @@ impl Track {
 
     /// Whether the last item is `void`, so that a function that comes next is declared without a value.
     pub fn is_behind_void(&self) -> bool
-        ensures { (before : List items.Item) → specs.IsTrack before self.now
+        ensures { (before : List items.Item) → changes.IsTrack before self.now
             → result ≡ functions.stands_behind functions.is_void before }
     {
         matches!(
@@ -142,7 +189,7 @@ impl Track {
 
     /// Whether the last item is `=`, so that a value is wanted of a function that comes next.
     pub fn is_behind_equals(&self) -> bool
-        ensures { (before : List items.Item) → specs.IsTrack before self.now
+        ensures { (before : List items.Item) → changes.IsTrack before self.now
             → result ≡ functions.stands_behind functions.is_equals before }
     {
         matches!(
@@ -154,11 +201,14 @@ impl Track {
         )
     }
 
-    /// The name that an item changes together with the one before it, and its place.
+    /// The name that an item changes together with the one before it, and its place: in a declarator there is none.
     pub fn change(&self, item: Item) -> Option<(u32, Place)>
-        ensures { (before : List items.Item) → specs.IsTrack before self.now
-            → result ≡ specs.changed_at before item }
+        ensures { (before : List items.Item) → changes.IsTrack before self.now
+            → result ≡ changes.changed_at before item }
     {
-        changed_behind(self.last, item)
+        match self.opened {
+            Some(_opened) => None,
+            None => changed_behind(self.last, item),
+        }
     }
 }

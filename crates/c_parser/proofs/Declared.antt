@@ -18,14 +18,15 @@ use Rattle.c_grammar.specs.declared.items.Sign.{Sign}
 use Rattle.c_grammar.specs.declared.items.Sign.TheVariants as signs
 use Rattle.c_grammar.specs.Facts.{IsFit, AreFit}
 use Rattle.c_grammar.specs.Grammar.{at}
+use Rattle.c_grammar.specs.Locals.{declares_behind, declarations_from, is_in_own}
 use Rattle.c_parser.specs.declared.names.Limits.{Limits}
 use Rattle.c_parser.specs.Signs.{keyword_of, mark_of, sign_in, marks}
 use Rattle.c_parser.specs.Items.{AreDistinct, is_function, number_in, with_name, identifier_sign, names_with_identifier, word_sign, sign_of, names_with_word, names_with, lexeme_in, names_from, items_over}
 use Rattle.c_parser.specs.Judging.{counted}
 use Rattle.c_parser.specs.Signing.{items_from}
 use Rattle.c_parser.specs.Reading.{AreAmong}
-use Rattle.c_parser.specs.Names.{has_main, name_of, names_at, declared_by, limit_fault, declaration_fault, use_fault, name_fault, change_fault, name_fault_from}
-use Rattle.c_parser.proofs.Judging.{declared_still, declared_behind, declared_on}
+use Rattle.c_parser.specs.Names.{has_main, is_used_behind, name_of, names_of, names_at, declared_by, limit_fault, declaration_fault, use_fault, name_fault, change_fault, name_fault_from}
+use Rattle.c_parser.proofs.Judging.{declared_still, declared_behind, declared_on, declared_more}
 use Rattle.c_parser.proofs.Lexical.{IsConstant, new_or_old, keyword_constant, unwrapped_constant, table_constant, marks_constant}
 use Rattle.c_parser.proofs.NameNumbers.{AreBelow, at_number, name_among, number_among}
 
@@ -46,8 +47,9 @@ split_none : (o : Option FileCode) (p : Place) (later : Option (FileCode × Plac
 split_none None p later h = (refl, h)
 split_none (Some code) p later h = absurd cc
 
-use_none : (limits : Limits) (ds : List ℕ) (x : ℕ) → use_fault (counted limits) ds x ≡ None → list_any (nat_eq x) ds ≡ true
-use_none limits ds x h = elim (list_any (nat_eq x) ds) as (λ b. fault_if b ≡ None → b ≡ true) [ true ↦ λ _. refl | false ↦ λ g. absurd cc ] h
+use_none : (limits : Limits) (own : Bool) (ds : List ℕ) (x : ℕ) → use_fault (counted limits) own ds x ≡ None → list_any (nat_eq x) ds ≡ true
+use_none limits true ds x h = absurd cc
+use_none limits false ds x h = elim (list_any (nat_eq x) ds) as (λ b. fault_if b ≡ None → b ≡ true) [ true ↦ λ _. refl | false ↦ λ g. absurd cc ] h
 
 declaration_none : (limits : Limits) (ds : List ℕ) (x : ℕ) → declaration_fault (counted limits) ds x ≡ None → (list_any (nat_eq x) ds ≡ false) × (limit_fault (counted limits) x ≡ None)
 declaration_none limits ds x h = elim (list_any (nat_eq x) ds) as (λ b. second_if b (limit_fault (counted limits) x) ≡ None → (b ≡ false) × (limit_fault (counted limits) x ≡ None)) [
@@ -75,12 +77,12 @@ other_step : (limits : Limits) (all names : List (List ℕ)) (before : List Item
 other_step limits all names before p s none h = still_told limits all names before (before ++ at p s ∷ []) (declared_still before (at p s) none) h
 
 -- a name that is used stands among the names so far
-used_step : (limits : Limits) (all names : List (List ℕ)) (w : List ℕ) (before : List Item) (p : Place) → list_any (bytes_eq w) all ≡ true → AreTold limits all names before → has_main before ≡ true
-    → use_fault (counted limits) (declared_by before) (number_in all w) ≡ None → AreTold limits all (with_name names w) (before ++ at p (signs.Name (number_in all w)) ∷ [])
-used_step limits all names w before p found h main none =
-    let here : list_any (bytes_eq w) names ≡ true = ap (list_any (bytes_eq w)) (sym h.told) ∙ name_among all (declared_by before) w found (use_none limits (declared_by before) (number_in all w) none) in
+used_step : (limits : Limits) (all names : List (List ℕ)) (w : List ℕ) (before : List Item) (p : Place) (own : Bool) → list_any (bytes_eq w) all ≡ true → AreTold limits all names before → is_used_behind before ≡ true
+    → use_fault (counted limits) own (declared_by before) (number_in all w) ≡ None → AreTold limits all (with_name names w) (before ++ at p (signs.Name (number_in all w)) ∷ [])
+used_step limits all names w before p own found h used none =
+    let here : list_any (bytes_eq w) names ≡ true = ap (list_any (bytes_eq w)) (sym h.told) ∙ name_among all (declared_by before) w found (use_none limits own (declared_by before) (number_in all w) none) in
     subst (λ (ns : List (List ℕ)). AreTold limits all ns (before ++ at p (signs.Name (number_in all w)) ∷ [])) (sym (ap (λ (b : Bool). if b then names else names ++ w ∷ []) here))
-    (still_told limits all names before (before ++ at p (signs.Name (number_in all w)) ∷ []) (declared_behind before (at p (signs.Name (number_in all w)) ∷ []) main) h)
+    (still_told limits all names before (before ++ at p (signs.Name (number_in all w)) ∷ []) (declared_behind before (at p (signs.Name (number_in all w))) used) h)
 
 only : (x y : ℕ) → (nat_eq x y || false) ≡ true → y ≡ x
 only x y e = elim (nat_eq x y) as (λ b. nat_eq x y ≡ b → (b || false) ≡ true → y ≡ x) [
@@ -89,9 +91,9 @@ only x y e = elim (nat_eq x y) as (λ b. nat_eq x y ≡ b → (b || false) ≡ t
 ] refl e
 
 -- a name that is declared is new behind them
-declared_step : (limits : Limits) (all names : List (List ℕ)) (w : List ℕ) (before : List Item) (p : Place) → AreDistinct all → number_in all w < length all → list_any (bytes_eq w) all ≡ true → AreTold limits all names before → has_main before ≡ false
+declared_step : (limits : Limits) (all names : List (List ℕ)) (w : List ℕ) (before : List Item) (p : Place) → AreDistinct all → number_in all w < length all → list_any (bytes_eq w) all ≡ true → AreTold limits all names before → is_used_behind before ≡ false
     → declaration_fault (counted limits) (declared_by before) (number_in all w) ≡ None → AreTold limits all (with_name names w) (before ++ at p (signs.Name (number_in all w)) ∷ [])
-declared_step limits all names w before p distinct lt found h main none =
+declared_step limits all names w before p distinct lt found h used none =
     let x = number_in all w in
     let d = declaration_none limits (declared_by before) (number_in all w) none in
     let below : AreBelow (length all) (declared_by before) = λ y e. (h.each y e).below in
@@ -99,7 +101,7 @@ declared_step limits all names w before p distinct lt found h main none =
       | true ↦ λ e. absurd (both_ways (list_any (nat_eq (number_in all w)) (declared_by before)) d.0 (number_among all (declared_by before) w distinct below (ap (list_any (bytes_eq w)) h.told ∙ e)))
       | false ↦ λ _. refl
     ] refl in
-    let more : declared_by (before ++ at p (signs.Name (number_in all w)) ∷ []) ≡ declared_by before ++ number_in all w ∷ [] = declared_on before (at p (signs.Name (number_in all w)) ∷ []) main in
+    let more : declared_by (before ++ at p (signs.Name (number_in all w)) ∷ []) ≡ declared_by before ++ number_in all w ∷ [] = declared_on before (at p (signs.Name (number_in all w))) used in
     subst (λ (ns : List (List ℕ)). AreTold limits all ns (before ++ at p (signs.Name (number_in all w)) ∷ [])) (sym (ap (λ (b : Bool). if b then names else names ++ w ∷ []) new)) (record {
       told =
           ap (names_at all) more
@@ -122,9 +124,9 @@ name_step limits all names w before p distinct lt h none =
       | inl new ↦ absurd (omega (arith, new.1, lt))
       | inr old ↦ old.0
     ] in
-    elim (has_main before) as (λ b. has_main before ≡ b → (if b then use_fault (counted limits) (declared_by before) (number_in all w) else declaration_fault (counted limits) (declared_by before) (number_in all w)) ≡ None
+    elim (is_used_behind before) as (λ b. is_used_behind before ≡ b → (if b then use_fault (counted limits) (is_in_own before (number_in all w)) (declared_by before) (number_in all w) else declaration_fault (counted limits) (declared_by before) (number_in all w)) ≡ None
     → AreTold limits all (with_name names w) (before ++ at p (signs.Name (number_in all w)) ∷ [])) [
-      | true ↦ λ e g. used_step limits all names w before p found h e g
+      | true ↦ λ e g. used_step limits all names w before p (is_in_own before (number_in all w)) found h e g
       | false ↦ λ e g. declared_step limits all names w before p distinct lt found h e g
     ] refl none
 
@@ -165,12 +167,21 @@ names_from_declared functions limits all distinct text names (t ∷ ts) before f
 
 -- ---- where all that is declared is given, no name is new
 
+-- a name that is declared stays so
+stays_declared : (x : ℕ) (before more : List Item) → list_any (nat_eq x) (declared_by before) ≡ true → list_any (nat_eq x) (declared_by (before ++ more)) ≡ true
+stays_declared x before more e =
+    let behind : List ℕ = names_of (declarations_from (has_main before) (declares_behind before) more) in
+    ap (list_any (nat_eq x)) (declared_more before more) ∙ list_any-append (nat_eq x) (declared_by before) behind ∙ ap (λ (b : Bool). b || list_any (nat_eq x) behind) e
+
 given_name : (limits : Limits) (given : List (List ℕ)) (w : List ℕ) (before more : List Item) (p : Place) → AreAmong given (before ++ at p (signs.Name (number_in given w)) ∷ more) → name_fault (counted limits) before (signs.Name (number_in given w)) ≡ None → number_in given w < length given
-given_name limits given w before more p among none = elim (has_main before) as (λ b. has_main before ≡ b → (if b then use_fault (counted limits) (declared_by before) (number_in given w) else declaration_fault (counted limits) (declared_by before) (number_in given w)) ≡ None → number_in given w < length given) [
-  | true ↦ λ e g. among (number_in given w) (subst (λ (ds : List ℕ). list_any (nat_eq (number_in given w)) ds ≡ true) (sym (declared_behind before (at p (signs.Name (number_in given w)) ∷ more) e)) (use_none limits (declared_by before) (number_in given w) g))
-  | false ↦ λ e g. among (number_in given w) (subst (λ (ds : List ℕ). list_any (nat_eq (number_in given w)) ds ≡ true) (sym (declared_on before (at p (signs.Name (number_in given w)) ∷ more) e))
-      (list_any-append (nat_eq (number_in given w)) (declared_by before) (number_in given w ∷ declared_by more) ∙ or_right (list_any (nat_eq (number_in given w)) (declared_by before)) (list_any (nat_eq (number_in given w)) (number_in given w ∷ declared_by more)) (rw (eq-eqb (number_in given w) (number_in given w) refl) refl)))
-] refl none
+given_name limits given w before more p among none =
+    let x : ℕ = number_in given w in
+    let item : Item = at p (signs.Name (number_in given w)) in
+    elim (is_used_behind before) as (λ b. is_used_behind before ≡ b → (if b then use_fault (counted limits) (is_in_own before (number_in given w)) (declared_by before) (number_in given w) else declaration_fault (counted limits) (declared_by before) (number_in given w)) ≡ None → number_in given w < length given) [
+      | true ↦ λ e g. among x (stays_declared x before (item ∷ more) (use_none limits (is_in_own before x) (declared_by before) x g))
+      | false ↦ λ e g. among x (subst (λ (ys : List Item). list_any (nat_eq x) (declared_by ys) ≡ true) (append_assoc before (item ∷ []) more) (stays_declared x (before ++ item ∷ []) more
+          (ap (list_any (nat_eq x)) (declared_on before item e) ∙ list_any-append (nat_eq x) (declared_by before) (x ∷ []) ∙ or_right (list_any (nat_eq x) (declared_by before)) (list_any (nat_eq x) (x ∷ [])) (rw (eq-eqb x x refl) refl))))
+    ] refl none
 
 given_identifier : (b : Bool) (functions : List (List ℕ)) (limits : Limits) (given : List (List ℕ)) (w : List ℕ) (before more : List Item) (p : Place) → AreAmong given (before ++ at p (identifier_sign b functions given w) ∷ more)
     → name_fault (counted limits) before (identifier_sign b functions given w) ≡ None → names_with_identifier b given w ≡ given

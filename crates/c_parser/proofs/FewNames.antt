@@ -1,5 +1,5 @@
 -- A family without a fault of a name has at most 16 variables, and at most 16 constants and features that it uses together.
-use Rattle.std.proofs.Common.{◌≡◌, ◌⊎◌, inl, inr, ℕ, ◌+◌, ◌≤◌, ◌<◌, nat_eq, nat_le, nat_lt, Bool, true, false, not, ◌||◌, cond, List, [], ◌∷◌, ◌++◌, length, Option, Some, None, refl, sym, ap, subst, ◌∙◌, append_assoc, append-nil, arith}
+use Rattle.std.proofs.Common.{◌≡◌, ◌⊎◌, inl, inr, ℕ, ◌+◌, ◌≤◌, ◌<◌, nat_eq, nat_le, nat_lt, Bool, true, false, not, ◌&&◌, ◌||◌, List, [], ◌∷◌, ◌++◌, length, Option, Some, None, refl, sym, ap, subst, ◌∙◌, append_assoc, append-nil, arith}
 use Rattle.std.specs.Prelude.{ℤ, if◌then◌else◌}
 use Rattle.std.proofs.lemmas.Bool.{or_right}
 use Rattle.std.proofs.lemmas.Bool.Decides.{nat_tests}
@@ -19,48 +19,25 @@ use Rattle.c_grammar.specs.declared.constants.NameKind.TheVariants as kinds
 use Rattle.c_grammar.specs.Constants.{is_constant, kind_after}
 use Rattle.c_grammar.specs.Grammar.{at}
 use Rattle.c_grammar.specs.Kinds.{is_declared_constant}
+use Rattle.c_grammar.specs.Locals.{declares_behind, declarations_from, of_declarations}
+use Rattle.c_grammar.proofs.Declaring.{declarations_more}
 use Rattle.family_names.specs.Judging.{with_kind}
-use Rattle.family_names.specs.Names.{is_main, has_main, until_main, behind_main, name_of, names_of, declared_by, constants_of, variables_of, values_of, test_count, is_among, with_number, each_once, is_feature, is_value, is_missed, value_fault, full_fault, new_name_fault, NameContext, IsFaultFrom, IsChangeOr, changed_place, IsNameFault, IsUseFault, IsDeclarationFault, IsWithFirst, IsEither, code_with, IsThisOr}
-use Rattle.family_names.proofs.Declared.{AreStill, still_behind, still_main, still_other, among_once, or_left}
-use Rattle.family_names.proofs.KindsBehind.{behind_none, behind_on, more_constants, more_variables, still_constants, still_unused, still_values, still_variables, value_more}
+use Rattle.family_names.specs.Names.{has_main, behind_main, name_of, names_of, declared_by, constants_of, variables_of, values_of, test_count, is_among, with_number, each_once, is_feature, is_value, is_missed, value_fault, full_fault, new_name_fault, NameContext, is_used_behind, IsFaultFrom, IsChangeOr, changed_place, IsNameFault, IsUseFault, IsDeclarationFault, IsWithFirst, IsEither, code_with, IsThisOr}
+use Rattle.family_names.proofs.Declared.{AreStill, more_named, still_used, still_other, names_append, among_once, or_left}
+use Rattle.family_names.proofs.Features.{no_value}
+use Rattle.family_names.proofs.KindsBehind.{behind_none, behind_on, more_constants, more_variables, still_constants, still_valued, still_values, still_variables, value_more}
 use Rattle.c_parser.specs.FamilyItems.{is_name, has}
-use Rattle.c_parser.proofs.AmongNumbers.{neither, or_cases, among_front, same_number, with_it, is_same, once_has, at_least, both_kinds, among_both}
+use Rattle.c_parser.proofs.AmongNumbers.{or_cases, among_front, same_number, with_it, is_same, once_has, at_least, both_kinds, among_both}
 
 -- ---- declared names, one item after another
 
-names_both : (xs ys : List Item) → names_of (xs ++ ys) ≡ names_of xs ++ names_of ys
-names_both [] ys = refl
-names_both (x ∷ xs) ys = ap (λ (ns : List ℕ). name_of x.sign ++ ns) (names_both xs ys) ∙ sym (append_assoc (name_of x.sign) (names_of xs) (names_of ys))
-
-before_main : (before more : List Item) → has_main before ≡ false → until_main (before ++ more) ≡ before ++ until_main more
-before_main [] more h = refl
-before_main (x ∷ xs) more h =
-    let n = neither (is_main x.sign) (has_main xs) h in
-    ap (λ (b : Bool). cond b [] (x ∷ until_main (xs ++ more))) n.0 ∙ ap (λ (ys : List Item). x ∷ ys) (before_main xs more n.1)
-
-pub none_more : (xs : List Item) → has_main xs ≡ false → until_main xs ≡ xs
-none_more xs h = ap until_main (sym (append-nil xs)) ∙ before_main xs [] h ∙ append-nil xs
-
-pub declared_more : (before more : List Item) → has_main before ≡ false → declared_by (before ++ more) ≡ declared_by before ++ declared_by more
-declared_more before more h =
-    ap names_of (before_main before more h) ∙ names_both before (until_main more) ∙ ap (λ (ys : List Item). names_of ys ++ declared_by more) (sym (none_more before h))
-
-stays_until : (before more : List Item) → has_main before ≡ true → until_main (before ++ more) ≡ until_main before
-stays_until [] more h = absurd cc
-stays_until (x ∷ xs) more h = elim (is_main x.sign) as (λ b. (b || has_main xs) ≡ true → cond b [] (x ∷ until_main (xs ++ more)) ≡ cond b [] (x ∷ until_main xs)) [
-  | true ↦ λ e. refl
-  | false ↦ λ e. ap (λ (ys : List Item). x ∷ ys) (stays_until xs more e)
-] h
-
-pub declared_same : (before more : List Item) → has_main before ≡ true → declared_by (before ++ more) ≡ declared_by before
-declared_same before more h = ap names_of (stays_until before more h)
+pub declared_more : (before more : List Item) → declared_by (before ++ more) ≡ declared_by before ++ names_of (declarations_from (has_main before) (declares_behind before) more)
+declared_more before more = ap names_of (declarations_more before more) ∙ names_append (of_declarations before) (declarations_from (has_main before) (declares_behind before) more)
 
 -- what is declared stays declared
 stays : (x : ℕ) (before more : List Item) → is_among x (declared_by before) ≡ true → is_among x (declared_by (before ++ more)) ≡ true
-stays x before more h = elim (has_main before) as (λ b. has_main before ≡ b → is_among x (declared_by (before ++ more)) ≡ true) [
-  | true ↦ λ e. ap (is_among x) (declared_same before more e) ∙ h
-  | false ↦ λ e. ap (is_among x) (declared_more before more e) ∙ among_front x (declared_by before) (declared_by more) h
-] refl
+stays x before more h =
+    ap (is_among x) (declared_more before more) ∙ among_front x (declared_by before) (names_of (declarations_from (has_main before) (declares_behind before) more)) h
 
 -- ---- what no fault says of an item
 
@@ -98,15 +75,6 @@ pub names_this : (s : Sign) → (name_of s ≡ []) ⊎ ((n : ℕ) × (s ≡ sign
 names_this (signs.Name n) = inr (n, refl)
 names_this _ = inl refl
 
-pub silent_one : (x : Item) → name_of x.sign ≡ [] → declared_by (x ∷ []) ≡ []
-silent_one x e = elim (is_main x.sign) as (λ b. names_of (cond b [] (x ∷ [])) ≡ []) [ true ↦ refl | false ↦ append-nil (name_of x.sign) ∙ e ]
-
-pub silent_same : (before : List Item) (x : Item) → declared_by (x ∷ []) ≡ [] → declared_by (before ++ x ∷ []) ≡ declared_by before
-silent_same before x one = elim (has_main before) as (λ b. has_main before ≡ b → declared_by (before ++ x ∷ []) ≡ declared_by before) [
-  | true ↦ λ m. declared_same before (x ∷ []) m
-  | false ↦ λ m. declared_more before (x ∷ []) m ∙ ap (λ (ns : List ℕ). declared_by before ++ ns) one ∙ append-nil (declared_by before)
-] refl
-
 not_named : (n : ℕ) (s : Sign) → name_of s ≡ [] → is_name n s ≡ true → ⊥
 not_named n (signs.Name m) e k = absurd cc
 not_named n _ e k = absurd cc
@@ -114,10 +82,7 @@ not_named n _ e k = absurd cc
 -- an item that names nothing
 silent_step : (context : NameContext) (before : List Item) (x : Item) → name_of x.sign ≡ [] → AreFew context before → IsFine context before x
 silent_step context before x e f =
-    let still : AreStill before x = elim (is_main x.sign) as (λ b. is_main x.sign ≡ b → AreStill before x) [
-      | true ↦ λ m. still_main before x m
-      | false ↦ λ m. still_other before x m e
-    ] refl in
+    let still = still_other before x e in
     record {
       few = same_few context before (before ++ x ∷ []) still.any (still_variables before x still) (still_constants before x still) (still_values context before x e) f;
       named = λ n k. absurd (not_named n x.sign e k);
@@ -129,6 +94,10 @@ this_named context items x n k e h i = subst (λ (j : ℕ). is_named context ite
 
 at_name : (x : Item) (n : ℕ) → x.sign ≡ signs.Name n → at x.place (signs.Name n) ≡ x
 at_name x n e = ap (λ (s : Sign). at x.place s) (sym e)
+
+and_left : (a b : Bool) → (a && b) ≡ true → a ≡ true
+and_left true b h = refl
+and_left false b h = absurd cc
 
 -- a first use of a feature has room
 record HasRoom (context : NameContext) (used : List ℕ) (constants x : ℕ) : Type 0 where
@@ -183,10 +152,11 @@ used_other context before n h = elim (is_feature context n) as (λ a. IsEither a
       ] k)
     ] h
 
-use_step : (context : NameContext) (before : List Item) (x : Item) (n : ℕ) → x.sign ≡ signs.Name n → has_main before ≡ true → IsUseFault context before n None → AreFew context before → IsFine context before x
-use_step context before x n e m h f =
+use_step : (context : NameContext) (before : List Item) (x : Item) (n : ℕ) → x.sign ≡ signs.Name n → is_used_behind before ≡ true → IsUseFault context before n None → AreFew context before → IsFine context before x
+use_step context before x n e u h f =
     let after = before ++ x ∷ [] in
-    let still = still_behind before x m in
+    let m : has_main before ≡ true = and_left (has_main before) (not (declares_behind before)) u in
+    let still : AreStill before x = subst (AreStill before) (at_name x n e) (still_used before x.place n u) in
     let more : values_of context (before ++ x ∷ []) ≡ (if is_value context n then with_number (values_of context before) n else values_of context before) =
     ap (λ (y : Item). values_of context (before ++ y ∷ [])) (sym (at_name x n e)) ∙ value_more context before x.place n m in
     elim (is_value context n) as (λ b. is_value context n ≡ b → IsEither b (None ≡ value_fault context (values_of context before) (length (constants_of before)) n) (IsEither (is_feature context n) (◌≡◌ {A = Option FileCode} None (Some FeatureInCode))
@@ -220,18 +190,18 @@ some_if code true e = absurd cc
 some_if code false e = refl
 
 -- the names of its kind have room, and the others stay
-with_room : (kind : Bool) (names constants variables : List ℕ) (values n : ℕ) → (is_among n names ≡ true) ⊎ (full_fault kind (length constants) (length variables) ≡ None) → length variables ≤ 16 → length constants + values ≤ 16 → values ≡ 0
+with_room : (kind : Bool) (names constants variables : List ℕ) (values n : ℕ) → (is_among n names ≡ true) ⊎ (full_fault kind (length constants + values) (length variables) ≡ None) → length variables ≤ 16 → length constants + values ≤ 16
     → (length (with_kind (not kind) names variables n) ≤ 16) × (length (with_kind kind names constants n) + values ≤ 16)
-with_room true names constants variables values n (inl old) le room none = (le, subst (λ (b : Bool). length (if not b then constants ++ n ∷ [] else constants) + values ≤ 16) (sym old) room)
-with_room true names constants variables values n (inr full) le room none = (
+with_room true names constants variables values n (inl old) le room = (le, subst (λ (b : Bool). length (if not b then constants ++ n ∷ [] else constants) + values ≤ 16) (sym old) room)
+with_room true names constants variables values n (inr full) le room = (
   le,
   (elim (is_among n names) as (λ b. length (if not b then constants ++ n ∷ [] else constants) + values ≤ 16) [
     | true ↦ room
-    | false ↦ omega (arith, not_full (length constants) (some_if TooManyConstants (nat_le 16 (length constants)) full), length-append constants (n ∷ []), none)
+    | false ↦ omega (arith, not_full (length constants + values) (some_if TooManyConstants (nat_le 16 (length constants + values)) full), length-append constants (n ∷ []))
   ]),
 )
-with_room false names constants variables values n (inl old) le room none = (subst (λ (b : Bool). length (if not b then variables ++ n ∷ [] else variables) ≤ 16) (sym old) le, room)
-with_room false names constants variables values n (inr full) le room none = (
+with_room false names constants variables values n (inl old) le room = (subst (λ (b : Bool). length (if not b then variables ++ n ∷ [] else variables) ≤ 16) (sym old) le, room)
+with_room false names constants variables values n (inr full) le room = (
   (elim (is_among n names) as (λ b. length (if not b then variables ++ n ∷ [] else variables) ≤ 16) [
     | true ↦ le
     | false ↦ omega (arith, not_full (length variables) (some_if TooManyVariables (nat_le 16 (length variables)) full), length-append variables (n ∷ []))
@@ -239,30 +209,34 @@ with_room false names constants variables values n (inr full) le room none = (
   room,
 )
 
-unused_yet : (context : NameContext) (before : List Item) → has_main before ≡ false → values_of context before ≡ []
-unused_yet context before m = ap (λ (ys : List Item). each_once [] (filter (is_value context) (names_of ys))) (behind_none before m)
+-- what no fault says of a declaration: its name is no feature's, and it is an old one, or there is room for one of its kind
+abbrev kind_full : NameContext → List Item → Option FileCode
+kind_full context before = full_fault (is_constant (kind_after kinds.Variable before)) (length (constants_of before) + length (values_of context before)) (length (variables_of before))
 
-declaration_step : (context : NameContext) (before : List Item) (x : Item) (n : ℕ) → x.sign ≡ signs.Name n → has_main before ≡ false → IsDeclarationFault context before n None → AreFew context before → IsFine context before x
-declaration_step context before x n e m h f =
-    let after = before ++ x ∷ [] in
-    let kind = is_constant (kind_after kinds.Variable before) in
-    let names = each_once [] (declared_by before) in
-    let one : declared_by (x ∷ []) ≡ n ∷ [] = ap (λ (s : Sign). declared_by (record { place = x.place; sign = s } ∷ [])) e in
-    let all : declared_by (before ++ x ∷ []) ≡ declared_by before ++ n ∷ [] = declared_more before (x ∷ []) m ∙ ap (λ (ns : List ℕ). declared_by before ++ ns) one in
-    let old_or_full : (is_among n (each_once [] (declared_by before)) ≡ true) ⊎ (full_fault (is_constant (kind_after kinds.Variable before)) (length (constants_of before)) (length (variables_of before)) ≡ None) =
-    elim (no_new_fault (is_feature context n) (is_among n (declared_by before)) (full_fault (is_constant (kind_after kinds.Variable before)) (length (constants_of before)) (length (variables_of before))) (no_other Twice (new_name_fault context before n) h.found h.fault_is)) [
+pub no_feature_declared : (context : NameContext) (before : List Item) (n : ℕ) → IsDeclarationFault context before n None → is_feature context n ≡ false
+no_feature_declared context before n h =
+    no_feature (is_feature context n) (is_among n (declared_by before)) (kind_full context before) (no_other Twice (new_name_fault context before n) h.found h.fault_is)
+
+old_or_room : (context : NameContext) (before : List Item) (n : ℕ) → IsDeclarationFault context before n None → (is_among n (each_once [] (declared_by before)) ≡ true) ⊎ (kind_full context before ≡ None)
+old_or_room context before n h =
+    elim (no_new_fault (is_feature context n) (is_among n (declared_by before)) (kind_full context before) (no_other Twice (new_name_fault context before n) h.found h.fault_is)) [
       | inl old ↦ inl (once_has n [] (declared_by before) old)
       | inr full ↦ inr full
-    ] in
-    let other : is_feature context n ≡ false =
-    no_feature (is_feature context n) (is_among n (declared_by before)) (full_fault (is_constant (kind_after kinds.Variable before)) (length (constants_of before)) (length (variables_of before))) (no_other Twice (new_name_fault context before n) h.found h.fault_is) in
-    let none : length (values_of context before) ≡ 0 = ap length (unused_yet context before m) in
-    let room = with_room kind names (constants_of before) (variables_of before) (length (values_of context before)) n old_or_full f.variables f.others none in
+    ]
+
+declaration_step : (context : NameContext) (before : List Item) (x : Item) (n : ℕ) → x.sign ≡ signs.Name n → is_used_behind before ≡ false → IsDeclarationFault context before n None → AreFew context before → IsFine context before x
+declaration_step context before x n e u h f =
+    let kind = is_constant (kind_after kinds.Variable before) in
+    let names = each_once [] (declared_by before) in
+    let all : declared_by (before ++ x ∷ []) ≡ declared_by before ++ n ∷ [] = ap (λ (y : Item). declared_by (before ++ y ∷ [])) (sym (at_name x n e)) ∙ (more_named before x.place n u).any in
+    let other : is_feature context n ≡ false = no_feature_declared context before n h in
+    let room = with_room kind names (constants_of before) (variables_of before) (length (values_of context before)) n (old_or_room context before n h) f.variables f.others in
     let constants : constants_of (before ++ x ∷ []) ≡ with_kind (is_constant (kind_after kinds.Variable before)) (each_once [] (declared_by before)) (constants_of before) n =
-    ap (λ (y : Item). constants_of (before ++ y ∷ [])) (sym (at_name x n e)) ∙ more_constants before x.place n m in
+    ap (λ (y : Item). constants_of (before ++ y ∷ [])) (sym (at_name x n e)) ∙ more_constants before x.place n u in
     let variables : variables_of (before ++ x ∷ []) ≡ with_kind (not (is_constant (kind_after kinds.Variable before))) (each_once [] (declared_by before)) (variables_of before) n =
-    ap (λ (y : Item). variables_of (before ++ y ∷ [])) (sym (at_name x n e)) ∙ more_variables before x.place n m in
-    let values : values_of context (before ++ x ∷ []) ≡ values_of context before = still_unused context before x m in
+    ap (λ (y : Item). variables_of (before ++ y ∷ [])) (sym (at_name x n e)) ∙ more_variables before x.place n u in
+    let values : values_of context (before ++ x ∷ []) ≡ values_of context before =
+    ap (λ (y : Item). values_of context (before ++ y ∷ [])) (sym (at_name x n e)) ∙ still_valued context before x.place n (no_value context n other) in
     record {
       few = record {
         variables = subst (λ (ns : List ℕ). length ns ≤ 16) (sym variables) room.0;
@@ -277,15 +251,15 @@ declaration_step context before x n e m h f =
           ])
         ]);
       };
-      named = λ j. this_named context after x n j e (or_left (is_among n (declared_by (before ++ x ∷ []))) (is_among n (values_of context (before ++ x ∷ []))) (ap (is_among n) all
+      named = λ j. this_named context (before ++ x ∷ []) x n j e (or_left (is_among n (declared_by (before ++ x ∷ []))) (is_among n (values_of context (before ++ x ∷ []))) (ap (is_among n) all
           ∙ list_any-append (nat_eq n) (declared_by before) (n ∷ []) ∙ or_right (is_among n (declared_by before)) (nat_eq n n || false) (ap (λ b. b || false) (same_number n))));
     }
 
 name_step : (context : NameContext) (before : List Item) (x : Item) (n : ℕ) → x.sign ≡ signs.Name n → IsNameFault context before (signs.Name n) None → AreFew context before → IsFine context before x
 name_step context before x n e h f =
-    elim (has_main before) as (λ b. has_main before ≡ b → IsEither b (IsUseFault context before n None) (IsDeclarationFault context before n None) → IsFine context before x) [
-      | true ↦ λ m k. use_step context before x n e m k f
-      | false ↦ λ m k. declaration_step context before x n e m k f
+    elim (is_used_behind before) as (λ b. is_used_behind before ≡ b → IsEither b (IsUseFault context before n None) (IsDeclarationFault context before n None) → IsFine context before x) [
+      | true ↦ λ u k. use_step context before x n e u k f
+      | false ↦ λ u k. declaration_step context before x n e u k f
     ] refl h
 
 step : (context : NameContext) (before : List Item) (x : Item) → IsNameFault context before x.sign None → AreFew context before → IsFine context before x
@@ -303,12 +277,16 @@ pub record AreFine (context : NameContext) (before xs : List Item) : Type 0 wher
 among_values : (context : NameContext) (n : ℕ) (items : List Item) → is_among n (values_of context items) ≡ is_among n (filter (is_value context) (names_of (behind_main items)))
 among_values context n items = among_once n [] (filter (is_value context) (names_of (behind_main items)))
 
+-- before `main` nothing is used
+unused_yet : (context : NameContext) (before : List Item) → has_main before ≡ false → values_of context before ≡ []
+unused_yet context before m = ap (λ (ys : List Item). each_once [] (filter (is_value context) (names_of ys))) (behind_none before m)
+
 -- what is used stays used
 values_stay : (context : NameContext) (n : ℕ) (before more : List Item) → is_among n (values_of context before) ≡ true → is_among n (values_of context (before ++ more)) ≡ true
 values_stay context n before more h = elim (has_main before) as (λ b. has_main before ≡ b → is_among n (values_of context (before ++ more)) ≡ true) [
   | true ↦ λ m. among_values context n (before ++ more)
       ∙ ap (λ (ys : List Item). is_among n (filter (is_value context) (names_of ys))) (behind_on before more m)
-      ∙ ap (λ (ns : List ℕ). is_among n (filter (is_value context) ns)) (names_both (behind_main before) more)
+      ∙ ap (λ (ns : List ℕ). is_among n (filter (is_value context) ns)) (names_append (behind_main before) more)
       ∙ ap (is_among n) (filter-append (is_value context) (names_of (behind_main before)) (names_of more))
       ∙ among_front n (filter (is_value context) (names_of (behind_main before))) (filter (is_value context) (names_of more)) (sym (among_values context n before) ∙ h)
   | false ↦ λ m. absurd (let bad : true ≡ false = sym h ∙ ap (is_among n) (unused_yet context before m) in cc)

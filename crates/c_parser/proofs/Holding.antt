@@ -1,6 +1,6 @@
 -- What is known of constants behind one item more, and the names that it changes.
 use Rattle.std.proofs.Common.{◌≡◌, ℕ, ◌+◌, ◌<◌, Bool, true, false, not, ◌&&◌, List, [], ◌∷◌, ◌++◌, length, take, drop, get_or, Option, Some, None, refl, sym, ap, subst, ◌∙◌, append-nil, drop-cons, add-one, inl, inr}
-use Rattle.std.specs.Prelude.{◌||◌, ◌⊎◌, if◌then◌else◌, option_map}
+use Rattle.std.specs.Prelude.{◌⊎◌, if◌then◌else◌, option_map}
 use Rattle.std.proofs.lemmas.List.{take_more}
 use Rattle.fam_outer.specs.declared.faults.FileCode.{FileCode}
 use Rattle.fam_outer.specs.declared.faults.Place.{Place}
@@ -9,24 +9,20 @@ use Rattle.c_grammar.specs.declared.constants.NameKind.TheVariants as kinds
 use Rattle.c_grammar.specs.declared.items.Item.{Item}
 use Rattle.c_grammar.specs.declared.items.Sign.{Sign}
 use Rattle.c_grammar.specs.declared.items.Sign.TheVariants as signs
-use Rattle.c_grammar.specs.Constants.{is_name, is_constant, kind_behind, kind_after, constants_from, of_constants, changed_at, IsTrack}
+use Rattle.c_grammar.specs.Constants.{is_name, is_constant, kind_after, constants_from, of_constants}
+use Rattle.c_grammar.specs.Changes.{changed_at, IsTrack}
+use Rattle.c_grammar.specs.Functions.{has_sign}
+use Rattle.c_grammar.specs.Locals.{is_declaring, declares_behind}
+use Rattle.c_grammar.proofs.Declaring.{last_of_constants}
 use Rattle.c_grammar.specs.Grammar.{at}
 use Rattle.cpp_lines.specs.Faults.{or_later}
-use Rattle.family_names.proofs.Holding.{from_more, left_out, kept_in}
+use Rattle.family_names.proofs.Holding.{from_more, from_main, kept_in}
 use Rattle.c_parser.specs.declared.constants.Constants.{Constants}
 use Rattle.c_parser.specs.declared.names.Known.{Known}
 use Rattle.c_parser.specs.declared.names.Limits.{Limits}
-use Rattle.c_parser.specs.Names.{Outside, is_main, has_main, name_of, declared_by, constants_by, constant_fault, change_fault, name_fault_from, first_name_fault}
+use Rattle.c_parser.specs.Names.{Outside, has_main, is_used_behind, name_of, declared_by, constants_by, constant_fault, change_fault, name_fault_from, first_name_fault}
 use Rattle.c_parser.specs.Judging.{IsKnown, AreHeld, Judges, counted, with_constant}
 use Rattle.c_parser.proofs.Judging.{declared_behind, declared_on, declared_still}
-
-from_main : (kind : NameKind) (before : List Item) → has_main (constants_from kind before) ≡ has_main before
-from_main kind [] = refl
-from_main kind (y ∷ ys) =
-    elim (is_constant kind || not (is_name y.sign)) as (λ t. (is_constant kind || not (is_name y.sign)) ≡ t → has_main (if t then y ∷ constants_from (kind_behind kind y.sign) ys else constants_from (kind_behind kind y.sign) ys) ≡ (is_main y.sign || has_main ys)) [
-      | true ↦ λ e. ap (λ (h : Bool). is_main y.sign || h) (from_main (kind_behind kind y.sign) ys)
-      | false ↦ λ e. from_main (kind_behind kind y.sign) ys ∙ sym (ap (λ (s : Sign). is_main s || has_main ys) (left_out (is_constant kind) y.sign e).1)
-    ] refl
 
 -- the sign is a name or names nothing
 record NamesNothing (s : Sign) : Type 0 where
@@ -44,34 +40,40 @@ name_or_nothing (signs.Name n) = inl (n, refl)
 name_or_nothing s = inr (record { no_name = refl; other = refl; adds_none = λ ns b. names_none ns b s refl })
 
 -- a name, a constant's or not
-name_more : (before : List Item) (p : Place) (n : ℕ) (kind : NameKind) (main : Bool) → has_main before ≡ main
-    → with_constant (declared_by before) (is_constant kind && not main) (signs.Name n) ≡ declared_by (before ++ constants_from kind (at p (signs.Name n) ∷ []))
-name_more before p n kinds.Constant true m = sym (declared_behind before (at p (signs.Name n) ∷ []) m)
-name_more before p n kinds.Constant false m = sym (declared_on before (at p (signs.Name n) ∷ []) m)
-name_more before p n kinds.Defined true m = sym (declared_behind before (at p (signs.Name n) ∷ []) m)
-name_more before p n kinds.Defined false m = sym (declared_on before (at p (signs.Name n) ∷ []) m)
-name_more before p n kinds.Variable main m = ap declared_by (sym (append-nil before))
+name_more : (before : List Item) (p : Place) (n : ℕ) (kind : NameKind) (used : Bool) → (is_constant kind ≡ true → is_used_behind before ≡ used)
+    → with_constant (declared_by before) (is_constant kind && not used) (signs.Name n) ≡ declared_by (before ++ constants_from kind (at p (signs.Name n) ∷ []))
+name_more before p n kinds.Constant true u = sym (declared_behind before (at p (signs.Name n)) (u refl))
+name_more before p n kinds.Constant false u = sym (declared_on before (at p (signs.Name n)) (u refl))
+name_more before p n kinds.Defined true u = sym (declared_behind before (at p (signs.Name n)) (u refl))
+name_more before p n kinds.Defined false u = sym (declared_on before (at p (signs.Name n)) (u refl))
+name_more before p n kinds.Variable used u = ap declared_by (sym (append-nil before))
 
-item_more : (before : List Item) (x : Item) (kind : NameKind) (main : Bool) → has_main before ≡ main
-    → with_constant (declared_by before) (is_constant kind && not main) x.sign ≡ declared_by (before ++ constants_from kind (x ∷ []))
-item_more before x kind main m = elim (name_or_nothing x.sign) [
-  | inl e ↦ subst (λ (y : Item). with_constant (declared_by before) (is_constant kind && not main) y.sign ≡ declared_by (before ++ constants_from kind (y ∷ [])))
-      (ap (λ (s : Sign). at x.place s) (sym e.1)) (name_more before x.place e.0 kind main m)
-  | inr n ↦ n.adds_none (declared_by before) (is_constant kind && not main) ∙ sym (declared_still before x n.no_name) ∙ ap (λ (ys : List Item). declared_by (before ++ ys)) (sym (kept_in kind x [] n.other))
+item_more : (before : List Item) (x : Item) (kind : NameKind) (used : Bool) → (is_constant kind ≡ true → is_used_behind before ≡ used)
+    → with_constant (declared_by before) (is_constant kind && not used) x.sign ≡ declared_by (before ++ constants_from kind (x ∷ []))
+item_more before x kind used u = elim (name_or_nothing x.sign) [
+  | inl e ↦ subst (λ (y : Item). with_constant (declared_by before) (is_constant kind && not used) y.sign ≡ declared_by (before ++ constants_from kind (y ∷ [])))
+      (ap (λ (s : Sign). at x.place s) (sym e.1)) (name_more before x.place e.0 kind used u)
+  | inr n ↦ n.adds_none (declared_by before) (is_constant kind && not used) ∙ sym (declared_still before x n.no_name) ∙ ap (λ (ys : List Item). declared_by (before ++ ys)) (sym (kept_in kind x [] n.other))
 ]
 
-pub held_more : (before : List Item) (x : Item) (old new : Constants) (known : Known) (constant : Bool) → IsKnown before known → AreHeld before old → IsTrack (before ++ x ∷ []) new.track → constant ≡ is_constant (kind_after kinds.Variable before)
-    → new.names.items ≡ with_constant old.names.items (constant && not known.in_main) x.sign → AreHeld (before ++ x ∷ []) new
-held_more before x old new known constant k h track is names =
+-- where a name would be a constant's, it is used behind the constants if it is behind all items
+used_same : (before : List Item) → is_constant (kind_after kinds.Variable before) ≡ true → is_used_behind (of_constants before) ≡ is_used_behind before
+used_same before c =
+    ap (λ (b : Bool). b && not (declares_behind (of_constants before))) (from_main kinds.Variable before)
+    ∙ ap (λ (o : Option Item). has_main before && not (has_sign is_declaring o)) (last_of_constants before c)
+
+pub held_more : (before : List Item) (x : Item) (old new : Constants) (constant used : Bool) → AreHeld before old → IsTrack (before ++ x ∷ []) new.track → constant ≡ is_constant (kind_after kinds.Variable before) → used ≡ is_used_behind before
+    → new.names.items ≡ with_constant old.names.items (constant && not used) x.sign → AreHeld (before ++ x ∷ []) new
+held_more before x old new constant used h track is u names =
     let kind : NameKind = kind_after kinds.Variable before in
     record {
       track = track;
       names =
           names
-          ∙ ap (λ (b : Bool). with_constant old.names.items (b && not known.in_main) x.sign) is
-          ∙ ap (λ (b : Bool). with_constant old.names.items (is_constant kind && not b) x.sign) k.main
-          ∙ ap (λ (ns : List ℕ). with_constant ns (is_constant kind && not (has_main before)) x.sign) h.names
-          ∙ item_more (of_constants before) x kind (has_main before) (from_main kinds.Variable before)
+          ∙ ap (λ (b : Bool). with_constant old.names.items (b && not used) x.sign) is
+          ∙ ap (λ (b : Bool). with_constant old.names.items (is_constant kind && not b) x.sign) u
+          ∙ ap (λ (ns : List ℕ). with_constant ns (is_constant kind && not (is_used_behind before)) x.sign) h.names
+          ∙ item_more (of_constants before) x kind (is_used_behind before) (used_same before)
           ∙ ap declared_by (sym (from_more kinds.Variable before x));
     }
 

@@ -1,56 +1,63 @@
 -- What is known of names behind one item more.
-use Rattle.std.proofs.Common.{◌≡◌, ℕ, Bool, true, false, List, [], ◌∷◌, ◌++◌, Option, None, refl, sym, ap, subst, ◌∙◌, append_assoc, append-nil}
-use Rattle.std.specs.Prelude.{◌||◌, not, if◌then◌else◌}
+use Rattle.std.proofs.Common.{◌≡◌, ℕ, Bool, true, false, List, [], ◌∷◌, ◌++◌, Option, None, refl, sym, ap, subst, ◌∙◌, append-nil}
+use Rattle.std.specs.Prelude.{◌||◌, ◌&&◌, not, if◌then◌else◌}
 use Rattle.fam_outer.specs.declared.faults.FileCode.{FileCode}
 use Rattle.c_grammar.specs.declared.items.Item.{Item}
 use Rattle.c_grammar.specs.declared.items.Sign.{Sign}
 use Rattle.c_grammar.specs.declared.items.Sign.TheVariants as signs
 use Rattle.c_grammar.specs.Grammar.{at}
+use Rattle.c_grammar.specs.Constants.{is_name}
+use Rattle.c_grammar.specs.Locals.{declares_behind, declarations_from, of_declarations, is_in_own}
+use Rattle.c_grammar.proofs.Declaring.{declarations_more}
+use Rattle.family_names.proofs.Declared.{names_append, main_on, or_true, or_false}
 use Rattle.c_parser.specs.declared.names.Known.{Known}
 use Rattle.c_grammar.specs.Functions.{is_void, is_equals, function_of, stands_behind, is_as_asked}
 use Rattle.c_parser.specs.declared.prototypes.Prototypes.{Prototypes}
-use Rattle.c_parser.specs.Names.{Outside, is_main, has_main, name_of, declared_by, functions_by, declaration_fault, use_fault, unlike_fault, prototype_fault, uncallable_fault, call_fault, name_fault}
+use Rattle.c_parser.specs.Names.{Outside, is_main, has_main, is_used_behind, name_of, names_of, declared_by, functions_by, declaration_fault, use_fault, unlike_fault, prototype_fault, uncallable_fault, call_fault, name_fault}
 use Rattle.c_parser.specs.Judging.{Declares, DeclaresAlike, ArePrototypes, JudgesFunction, IsKnown, Judges}
 use Rattle.c_parser.proofs.PrototypesBehind.{functions_behind, functions_still, functions_on}
 
--- `main` stands among items and one more
-pub main_on : (before : List Item) (x : Item) → has_main (before ++ x ∷ []) ≡ (has_main before || is_main x.sign)
-main_on [] x = elim (is_main x.sign) as (λ b. (b || false) ≡ b) [ true ↦ refl | false ↦ refl ]
-main_on (y ∷ ys) x = elim (is_main y.sign) as (λ b. (b || has_main (ys ++ x ∷ [])) ≡ ((b || has_main ys) || is_main x.sign)) [ true ↦ refl | false ↦ main_on ys x ]
+-- ---- what is declared
 
--- behind `main` nothing is declared
-pub declared_behind : (before xs : List Item) → has_main before ≡ true → declared_by (before ++ xs) ≡ declared_by before
-declared_behind [] xs h = absurd cc
-declared_behind (y ∷ ys) xs h =
-    elim (is_main y.sign) as (λ b. (b || has_main ys) ≡ true → (if b then [] else name_of y.sign ++ declared_by (ys ++ xs)) ≡ (if b then [] else name_of y.sign ++ declared_by ys)) [
-      | true ↦ λ _. refl
-      | false ↦ λ g. ap (λ (ns : List ℕ). name_of y.sign ++ ns) (declared_behind ys xs g)
-    ] h
+-- what is declared stays so
+pub declared_more : (before xs : List Item) → declared_by (before ++ xs) ≡ declared_by before ++ names_of (declarations_from (has_main before) (declares_behind before) xs)
+declared_more before xs = ap names_of (declarations_more before xs) ∙ names_append (of_declarations before) (declarations_from (has_main before) (declares_behind before) xs)
 
--- before it each name is
-pub declared_on : (before xs : List Item) → has_main before ≡ false → declared_by (before ++ xs) ≡ declared_by before ++ declared_by xs
-declared_on [] xs h = refl
-declared_on (y ∷ ys) xs h =
-    elim (is_main y.sign) as (λ b. (b || has_main ys) ≡ false → (if b then [] else name_of y.sign ++ declared_by (ys ++ xs)) ≡ (if b then [] else name_of y.sign ++ declared_by ys) ++ declared_by xs) [
-      | true ↦ λ g. absurd cc
-      | false ↦ λ g. ap (λ (ns : List ℕ). name_of y.sign ++ ns) (declared_on ys xs g) ∙ sym (append_assoc (name_of y.sign) (declared_by ys) (declared_by xs))
-    ] h
+unnamed : (s : Sign) → is_name s ≡ false → name_of s ≡ []
+unnamed (signs.Name x) e = absurd cc
+unnamed _ e = refl
+
+-- a name that is used is not declared
+names_of_one : (used : Bool) (x : Item) → names_of (if used && is_name x.sign then [] else x ∷ []) ≡ (if used then [] else name_of x.sign)
+names_of_one true x = elim (is_name x.sign) as (λ b. is_name x.sign ≡ b → names_of (if b then [] else x ∷ []) ≡ []) [
+  | true ↦ λ _. refl
+  | false ↦ λ e. ap (λ (ns : List ℕ). ns ++ []) (unnamed x.sign e)
+] refl
+names_of_one false x = append-nil (name_of x.sign)
+
+declared_one : (before : List Item) (x : Item) → declared_by (before ++ x ∷ []) ≡ declared_by before ++ (if is_used_behind before then [] else name_of x.sign)
+declared_one before x = declared_more before (x ∷ []) ∙ ap (λ (ns : List ℕ). declared_by before ++ ns) (names_of_one (is_used_behind before) x)
+
+-- where a name is used none is declared
+pub declared_behind : (before : List Item) (x : Item) → is_used_behind before ≡ true → declared_by (before ++ x ∷ []) ≡ declared_by before
+declared_behind before x h = declared_one before x ∙ ap (λ (b : Bool). declared_by before ++ (if b then [] else name_of x.sign)) h ∙ append-nil (declared_by before)
+
+-- and elsewhere each one is
+pub declared_on : (before : List Item) (x : Item) → is_used_behind before ≡ false → declared_by (before ++ x ∷ []) ≡ declared_by before ++ name_of x.sign
+declared_on before x h = declared_one before x ∙ ap (λ (b : Bool). declared_by before ++ (if b then [] else name_of x.sign)) h
+
+either_way : (b : Bool) (ns : List ℕ) → (if b then ns else ns) ≡ ns
+either_way true ns = refl
+either_way false ns = refl
 
 -- an item that is no name declares none
 pub declared_still : (before : List Item) (x : Item) → name_of x.sign ≡ [] → declared_by (before ++ x ∷ []) ≡ declared_by before
-declared_still [] x e = elim (is_main x.sign) as (λ b. (if b then [] else name_of x.sign ++ []) ≡ []) [ true ↦ refl | false ↦ rw e refl ]
-declared_still (y ∷ ys) x e = elim (is_main y.sign) as (λ b. (if b then [] else name_of y.sign ++ declared_by (ys ++ x ∷ [])) ≡ (if b then [] else name_of y.sign ++ declared_by ys)) [
-  | true ↦ refl
-  | false ↦ ap (λ (ns : List ℕ). name_of y.sign ++ ns) (declared_still ys x e)
-]
+declared_still before x e =
+    declared_one before x ∙ ap (λ (ns : List ℕ). declared_by before ++ (if is_used_behind before then [] else ns)) e ∙ ap (λ (ns : List ℕ). declared_by before ++ ns) (either_way (is_used_behind before) []) ∙ append-nil (declared_by before)
 
-or_true : (b : Bool) → (b || true) ≡ true
-or_true true = refl
-or_true false = refl
-
-or_false : (b : Bool) → (b || false) ≡ b
-or_false true = refl
-or_false false = refl
+-- whether a name is used, as the code asks
+pub used_next : (before : List Item) (main declares : Bool) → main ≡ has_main before → declares ≡ declares_behind before → (main && not declares) ≡ is_used_behind before
+used_next before main declares m d = ap (λ (b : Bool). b && not declares) m ∙ ap (λ (b : Bool). has_main before && not b) d
 
 -- ---- the functions that are declared behind one item more
 
@@ -123,21 +130,29 @@ at_main o before sign known is k = subst (λ (s : Sign). Judges o before s (reco
   };
 })
 
-pub at_use : (o : Outside) (before : List Item) (sign : Sign) (known : Known) (x : ℕ) (fault : Option FileCode) → sign ≡ signs.Name x → known.in_main ≡ true → IsKnown before known → fault ≡ use_fault o known.declared.items x → Judges o before sign known fault
-at_use o before sign known x fault is main k f = subst (λ (s : Sign). Judges o before s known fault) (sym is) (record {
-  fault_is = f ∙ ap (λ (ns : List ℕ). use_fault o ns x) k.declared ∙ ap (λ (b : Bool). if b then use_fault o (declared_by before) x else declaration_fault o (declared_by before) x) (sym (sym k.main ∙ main));
+pub at_use : (o : Outside) (before : List Item) (sign : Sign) (known : Known) (x : ℕ) (used own : Bool) (fault : Option FileCode) → sign ≡ signs.Name x → used ≡ true → used ≡ is_used_behind before → own ≡ is_in_own before x → IsKnown before known → fault ≡ use_fault o own known.declared.items x
+    → Judges o before sign known fault
+at_use o before sign known x used own fault is e u w k f = subst (λ (s : Sign). Judges o before s known fault) (sym is) (record {
+  fault_is =
+      f
+      ∙ ap (λ (b : Bool). use_fault o b known.declared.items x) w
+      ∙ ap (λ (ns : List ℕ). use_fault o (is_in_own before x) ns x) k.declared
+      ∙ ap (λ (b : Bool). if b then use_fault o (is_in_own before x) (declared_by before) x else declaration_fault o (declared_by before) x) (sym (sym u ∙ e));
   known_is = λ _ p. record {
-    declared = k.declared ∙ sym (declared_behind before (at p (signs.Name x) ∷ []) (sym k.main ∙ main));
+    declared = k.declared ∙ sym (declared_behind before (at p (signs.Name x)) (sym u ∙ e));
     prototypes = no_function before (at p (signs.Name x)) known.prototypes refl k.prototypes;
     main = k.main ∙ sym (main_on before (at p (signs.Name x)) ∙ or_false (has_main before));
   };
 })
 
-pub at_declaration : (o : Outside) (before : List Item) (sign : Sign) (known new : Known) (x : ℕ) (fault : Option FileCode) → sign ≡ signs.Name x → known.in_main ≡ false → new.in_main ≡ known.in_main → new.prototypes ≡ known.prototypes → IsKnown before known → Declares o known.declared.items x new.declared.items fault → Judges o before sign new fault
-at_declaration o before sign known new x fault is main same others k d = subst (λ (s : Sign). Judges o before s new fault) (sym is) (record {
-  fault_is = d.fault_is ∙ ap (λ (ns : List ℕ). declaration_fault o ns x) k.declared ∙ ap (λ (b : Bool). if b then use_fault o (declared_by before) x else declaration_fault o (declared_by before) x) (sym (sym k.main ∙ main));
+pub at_declaration : (o : Outside) (before : List Item) (sign : Sign) (known new : Known) (x : ℕ) (used : Bool) (fault : Option FileCode) → sign ≡ signs.Name x → used ≡ false → used ≡ is_used_behind before → new.in_main ≡ known.in_main → new.prototypes ≡ known.prototypes → IsKnown before known → Declares o known.declared.items x new.declared.items fault → Judges o before sign new fault
+at_declaration o before sign known new x used fault is e u same others k d = subst (λ (s : Sign). Judges o before s new fault) (sym is) (record {
+  fault_is =
+      d.fault_is
+      ∙ ap (λ (ns : List ℕ). declaration_fault o ns x) k.declared
+      ∙ ap (λ (b : Bool). if b then use_fault o (is_in_own before x) (declared_by before) x else declaration_fault o (declared_by before) x) (sym (sym u ∙ e));
   known_is = λ none p. record {
-    declared = d.added none ∙ ap (λ (ns : List ℕ). ns ++ x ∷ []) k.declared ∙ sym (declared_on before (at p (signs.Name x) ∷ []) (sym k.main ∙ main));
+    declared = d.added none ∙ ap (λ (ns : List ℕ). ns ++ x ∷ []) k.declared ∙ sym (declared_on before (at p (signs.Name x)) (sym u ∙ e));
     prototypes = subst (ArePrototypes (before ++ at p (signs.Name x) ∷ [])) (sym others) (no_function before (at p (signs.Name x)) known.prototypes refl k.prototypes);
     main = same ∙ k.main ∙ sym (main_on before (at p (signs.Name x)) ∙ or_false (has_main before));
   };

@@ -1,6 +1,6 @@
--- Constants and changed names of the items that stay are those of the family's items, since directives stand apart.
-use Rattle.std.proofs.Common.{◌≡◌, ℕ, Bool, true, false, not, ◌||◌, ◌&&◌, List, [], ◌∷◌, ◌++◌, Option, Some, None, refl, sym, ap, subst, ◌∙◌, inl, inr}
-use Rattle.std.specs.Prelude.{ℤ, ◌⊎◌, if◌then◌else◌, nat_eq}
+-- Constants and changed names of the items that stay are those of the family's items, since directives stand apart and in no declarator.
+use Rattle.std.proofs.Common.{◌≡◌, ℕ, Bool, true, false, not, ◌||◌, ◌&&◌, List, [], ◌∷◌, ◌++◌, Option, Some, None, refl, sym, ap, subst, ◌∙◌}
+use Rattle.std.specs.Prelude.{ℤ, if◌then◌else◌, nat_eq}
 use Rattle.std.specs.List.{list_any}
 use Rattle.std.proofs.lemmas.List.Folds.{list_any-append}
 use Rattle.fam_outer.specs.declared.faults.FileCode.{FileCode}
@@ -14,13 +14,17 @@ use Rattle.c_grammar.specs.declared.constants.NameKind.TheVariants as kinds
 use Rattle.c_grammar.specs.declared.items.Item.{Item}
 use Rattle.c_grammar.specs.declared.items.Sign.{Sign}
 use Rattle.c_grammar.specs.declared.items.Sign.TheVariants as signs
-use Rattle.c_grammar.specs.Constants.{is_name, is_constant, kind_behind, constants_from, of_constants, is_change, name_at, changed_from, changed_behind, changed_at, last_from, is_joining, IsBetween, AreApart}
+use Rattle.c_grammar.specs.Changes.{is_change, name_at, changed_from, changed_behind, changed_outside, changed_at}
+use Rattle.c_grammar.specs.Constants.{is_name, is_constant, kind_behind, constants_from, of_constants, last_from, is_joining, IsBetween, AreApart}
 use Rattle.c_grammar.specs.Grammar.{is_group}
 use Rattle.c_grammar.specs.Kept.{directive_of, kept_from, kept}
-use Rattle.family_names.specs.Names.{NameContext, truths_at, is_main, has_main, declared_by, constants_at, is_among, is_kept, is_value, is_met_constant, IsEither, IsChangeOf, IsChangeFault}
+use Rattle.c_grammar.specs.Locals.{is_declaring, open_behind, AreOutside as StandOutside}
+use Rattle.family_names.specs.Names.{NameContext, truths_at, is_main, has_main, names_of, declared_by, constants_at, is_among, is_kept, is_value, is_met_constant, IsEither, IsChangeOf, IsChangeFault}
 use Rattle.family_names.proofs.Holding.{left_out}
 use Rattle.c_parser.specs.Names as alone
-use Rattle.c_parser.proofs.KeptNames.{AreOutside, MainStays, has_same, has_main_kept, declared_alone, declared_kept, nowhere}
+use Rattle.c_parser.proofs.KeptNames.{AreOutside, MainStays, has_main_kept, declared_alone, no_declarer, open_kept, declarations_kept, nowhere}
+use Rattle.c_parser.proofs.KeptStates.{both_ways, AreLike, like_next, no_join, KnowNothing, known_behind, known_same, by_last, by_out, right, either}
+pub use Rattle.c_parser.proofs.KeptStates.{same_sections}
 
 -- ---- directives apart
 
@@ -28,80 +32,41 @@ pub apart_before : (kind : NameKind) (joined : Bool) (xs ys : List Item) → Are
 apart_before kind joined [] ys h = tt
 apart_before kind joined (x ∷ xs) ys h = (h.0, apart_before (kind_behind kind x.sign) (is_joining x.sign) xs ys h.1)
 
--- behind a token the same sections are open
-pub same_sections : (truths : List Bool) (ss : List Section) (s : Sign) → is_group s ≡ false → sections_after truths ss (directive_of s) ≡ ss
-same_sections truths ss (signs.GroupIf n) h = absurd cc
-same_sections truths ss (signs.GroupElif n) h = absurd cc
-same_sections truths ss signs.GroupElse h = absurd cc
-same_sections truths ss signs.GroupEnd h = absurd cc
-same_sections truths ss _ h = refl
+-- where a directive stands the next name is a variable's, and it is behind it
+no_kind : (s : Sign) → is_group s ≡ true → kind_behind kinds.Variable s ≡ kinds.Variable
+no_kind (signs.GroupIf n) h = refl
+no_kind (signs.GroupElif n) h = refl
+no_kind signs.GroupElse h = refl
+no_kind signs.GroupEnd h = refl
+no_kind _ h = absurd cc
 
--- behind a directive the next name is as before it
-same_kind : (kind : NameKind) (s : Sign) → is_group s ≡ true → kind_behind kind s ≡ kind
-same_kind kind (signs.GroupIf n) h = refl
-same_kind kind (signs.GroupElif n) h = refl
-same_kind kind signs.GroupElse h = refl
-same_kind kind signs.GroupEnd h = refl
-same_kind kind _ h = absurd cc
+abbrev kind_next : NameKind → Item → NameKind
+kind_next kind x = kind_behind kind x.sign
 
--- an item stays, or it is a directive or what stands around it goes
-pub data Choice (g k : Bool) : Type 0 where
-  stays : g ≡ false → k ≡ true → Choice g k
-  directs : g ≡ true → Choice g k
-  goes : g ≡ false → k ≡ false → Choice g k
-
-pub chosen : (g k : Bool) → Choice g k
-chosen true k = directs refl
-chosen false true = stays refl refl
-chosen false false = goes refl refl
-
-pub both_ways : (b : Bool) → b ≡ true → b ≡ false → ⊥
-both_ways b h k = let bad : true ≡ false = sym h ∙ k in cc
+no_constant : (kind : NameKind) (joined : Bool) (items : List Item) → AreApart kind joined items → KnowNothing kind_next kinds.Variable kind items
+no_constant kind joined [] h = tt
+no_constant kind joined (x ∷ xs) h = (λ g. (subst (λ (t : Bool). IsBetween t kind joined) g h.0).0, no_constant (kind_behind kind x.sign) (is_joining x.sign) xs h.1)
 
 name_plain : (kind : NameKind) (s : Sign) → (is_constant kind || not (is_name s)) ≡ false → is_group s ≡ false
 name_plain kind s e = ap is_group (left_out (is_constant kind) s e).1
 
--- what the next name is: in what stays, and in all
-record AreLike (ss : List Section) (here all : NameKind) : Type 0 where
-  kept : all_kept ss ≡ true → here ≡ all
-  gone : all_kept ss ≡ false → here ≡ kinds.Variable
-
-like_next : (truths : List Bool) (ss : List Section) (s : Sign) (here all : NameKind) (joined : Bool) → AreLike ss here all → IsBetween (is_group s) all joined → Choice (is_group s) (all_kept ss)
-    → AreLike (sections_after truths ss (directive_of s)) (if (not (is_group s) && all_kept ss) then kind_behind here s else here) (kind_behind all s)
-like_next truths ss s here all joined l b (stays g k) =
-    subst (λ (t : Bool). AreLike (sections_after truths ss (directive_of s)) (if t then kind_behind here s else here) (kind_behind all s)) (sym (ap (λ (t : Bool). not t && all_kept ss) g ∙ k))
-    (subst (λ (us : List Section). AreLike us (kind_behind here s) (kind_behind all s)) (sym (same_sections truths ss s g)) (record {
-      kept = λ _. ap (λ (t : NameKind). kind_behind t s) (l.kept k);
-      gone = λ e. absurd (both_ways (all_kept ss) k e);
-    }))
-like_next truths ss s here all joined l b (directs g) =
-    let between : (all ≡ kinds.Variable) × (joined ≡ false) = subst (λ (t : Bool). IsBetween t all joined) g b in
-    let none : here ≡ kinds.Variable = elim (all_kept ss) as (λ k. all_kept ss ≡ k → here ≡ kinds.Variable) [ true ↦ λ k. l.kept k ∙ between.0 | false ↦ λ k. l.gone k ] refl in
-    subst (λ (t : Bool). AreLike (sections_after truths ss (directive_of s)) (if (not t && all_kept ss) then kind_behind here s else here) (kind_behind all s)) (sym g) (record {
-      kept = λ _. none ∙ sym (same_kind all s g ∙ between.0);
-      gone = λ _. none;
-    })
-like_next truths ss s here all joined l b (goes g k) =
-    subst (λ (t : Bool). AreLike (sections_after truths ss (directive_of s)) (if t then kind_behind here s else here) (kind_behind all s)) (sym (ap (λ (t : Bool). not t && all_kept ss) g ∙ k))
-    (subst (λ (us : List Section). AreLike us here (kind_behind all s)) (sym (same_sections truths ss s g)) (record {
-      kept = λ e. absurd (both_ways (all_kept ss) e k);
-      gone = λ _. l.gone k;
-    }))
-
-pub right : (a b : Bool) → (a && b) ≡ true → b ≡ true
-right true b e = e
-right false b e = absurd cc
-
-pub either : (t : Bool) (ys : List Item) → (if t then ys else ys) ≡ ys
-either true ys = refl
-either false ys = refl
+plain_out : (kind : NameKind) (s : Sign) → not (is_constant kind || not (is_name s)) ≡ true → is_group s ≡ false
+plain_out kind s e = name_plain kind s (is_false (is_constant kind || not (is_name s)) e)
+  where
+    is_false : (b : Bool) → not b ≡ true → b ≡ false
+    is_false true e = absurd cc
+    is_false false e = refl
 
 -- an item in front, left out where it is the name of a variable
-by_name : (truths : List Bool) (ss : List Section) (kind : NameKind) (x : Item) (ys : List Item) (t keep : Bool) → (is_constant kind || not (is_name x.sign)) ≡ t → (not (is_group x.sign) && all_kept ss) ≡ keep
-    → (if t then (if keep then x ∷ kept_from truths (sections_after truths ss (directive_of x.sign)) ys else kept_from truths (sections_after truths ss (directive_of x.sign)) ys) else kept_from truths (sections_after truths ss (directive_of x.sign)) ys)
-    ≡ kept_from truths ss (if t then x ∷ ys else ys)
-by_name truths ss kind x ys true keep e k = ap (λ (b : Bool). if b then x ∷ kept_from truths (sections_after truths ss (directive_of x.sign)) ys else kept_from truths (sections_after truths ss (directive_of x.sign)) ys) (sym k)
-by_name truths ss kind x ys false keep e k = ap (λ (us : List Section). kept_from truths us ys) (same_sections truths ss x.sign (name_plain kind x.sign e))
+by_name : (truths : List Bool) (ss : List Section) (kind : NameKind) (x : Item) (ys : List Item) (keep : Bool) → (not (is_group x.sign) && all_kept ss) ≡ keep
+    → (if (is_constant kind || not (is_name x.sign)) then (if keep then x ∷ kept_from truths (sections_after truths ss (directive_of x.sign)) ys else kept_from truths (sections_after truths ss (directive_of x.sign)) ys) else kept_from truths (sections_after truths ss (directive_of x.sign)) ys)
+    ≡ kept_from truths ss (if (is_constant kind || not (is_name x.sign)) then x ∷ ys else ys)
+by_name truths ss kind x ys keep k =
+    elim (is_constant kind || not (is_name x.sign)) as (λ t. (not t ≡ true → is_group x.sign ≡ false)
+    → (if t then (if keep then x ∷ kept_from truths (sections_after truths ss (directive_of x.sign)) ys else kept_from truths (sections_after truths ss (directive_of x.sign)) ys) else kept_from truths (sections_after truths ss (directive_of x.sign)) ys) ≡ kept_from truths ss (if t then x ∷ ys else ys)) [
+      | true ↦ λ p. by_out truths ss x ys false keep p k
+      | false ↦ λ p. by_out truths ss x ys true keep p k
+    ] (plain_out kind x.sign)
 
 here_or_gone : (truths : List Bool) (ss : List Section) (here all : NameKind) (x : Item) (xs : List Item) (keep : Bool) → (not (is_group x.sign) && all_kept ss) ≡ keep → (keep ≡ true → here ≡ all)
     → constants_from (if keep then kind_behind here x.sign else here) (kept_from truths (sections_after truths ss (directive_of x.sign)) xs) ≡ kept_from truths (sections_after truths ss (directive_of x.sign)) (constants_from (kind_behind all x.sign) xs)
@@ -109,61 +74,50 @@ here_or_gone : (truths : List Bool) (ss : List Section) (here all : NameKind) (x
 here_or_gone truths ss here all x xs true k same rest =
     ap (λ (b : NameKind). if is_constant b || not (is_name x.sign) then x ∷ constants_from (kind_behind here x.sign) (kept_from truths (sections_after truths ss (directive_of x.sign)) xs) else constants_from (kind_behind here x.sign) (kept_from truths (sections_after truths ss (directive_of x.sign)) xs)) (same refl)
     ∙ ap (λ (ys : List Item). if is_constant all || not (is_name x.sign) then x ∷ ys else ys) rest
-    ∙ by_name truths ss all x (constants_from (kind_behind all x.sign) xs) (is_constant all || not (is_name x.sign)) true refl k
+    ∙ by_name truths ss all x (constants_from (kind_behind all x.sign) xs) true k
 here_or_gone truths ss here all x xs false k same rest =
     rest
     ∙ sym (either (is_constant all || not (is_name x.sign)) (kept_from truths (sections_after truths ss (directive_of x.sign)) (constants_from (kind_behind all x.sign) xs)))
-    ∙ by_name truths ss all x (constants_from (kind_behind all x.sign) xs) (is_constant all || not (is_name x.sign)) false refl k
+    ∙ by_name truths ss all x (constants_from (kind_behind all x.sign) xs) false k
 
 -- the constants of what stays are what stays of the constants
-constants_kept : (truths : List Bool) (ss : List Section) (here all : NameKind) (joined : Bool) (items : List Item) → AreApart all joined items → AreLike ss here all → constants_from here (kept_from truths ss items) ≡ kept_from truths ss (constants_from all items)
-constants_kept truths ss here all joined [] h l = refl
-constants_kept truths ss here all joined (x ∷ xs) h l =
+constants_kept : (truths : List Bool) (ss : List Section) (here all : NameKind) (items : List Item) → KnowNothing kind_next kinds.Variable all items → AreLike kinds.Variable ss here all → constants_from here (kept_from truths ss items) ≡ kept_from truths ss (constants_from all items)
+constants_kept truths ss here all [] h l = refl
+constants_kept truths ss here all (x ∷ xs) h l =
     here_or_gone truths ss here all x xs (not (is_group x.sign) && all_kept ss) refl (λ k. l.kept (right (not (is_group x.sign)) (all_kept ss) k))
-    (constants_kept truths (sections_after truths ss (directive_of x.sign)) (if (not (is_group x.sign) && all_kept ss) then kind_behind here x.sign else here) (kind_behind all x.sign) (is_joining x.sign) xs h.1
-    (like_next truths ss x.sign here all joined l h.0 (chosen (is_group x.sign) (all_kept ss))))
-
--- ---- the last item
-
-abbrev joins : Option Item → Bool
-joins None = false
-joins (Some x) = is_joining x.sign
-
--- where the last item of what stays is a name or changes one, it is the last item
-record IsLast (ss : List Section) (here all : Option Item) : Type 0 where
-  same : joins here ≡ true → here ≡ all
-  kept : joins here ≡ true → all_kept ss ≡ true
-
-last_next : (truths : List Bool) (ss : List Section) (x : Item) (here all : Option Item) (kind : NameKind) → IsLast ss here all → IsBetween (is_group x.sign) kind (joins all) → Choice (is_group x.sign) (all_kept ss)
-    → IsLast (sections_after truths ss (directive_of x.sign)) (if (not (is_group x.sign) && all_kept ss) then Some x else here) (Some x)
-last_next truths ss x here all kind l b (stays g k) =
-    subst (λ (t : Bool). IsLast (sections_after truths ss (directive_of x.sign)) (if t then Some x else here) (Some x)) (sym (ap (λ (t : Bool). not t && all_kept ss) g ∙ k))
-    (record { same = λ _. refl; kept = λ _. ap all_kept (same_sections truths ss x.sign g) ∙ k })
-last_next truths ss x here all kind l b (directs g) =
-    let between : (kind ≡ kinds.Variable) × (joins all ≡ false) = subst (λ (t : Bool). IsBetween t kind (joins all)) g b in
-    subst (λ (t : Bool). IsLast (sections_after truths ss (directive_of x.sign)) (if (not t && all_kept ss) then Some x else here) (Some x)) (sym g) (record {
-      same = λ j. absurd (both_ways (joins here) j (ap joins (l.same j) ∙ between.1));
-      kept = λ j. absurd (both_ways (joins here) j (ap joins (l.same j) ∙ between.1));
-    })
-last_next truths ss x here all kind l b (goes g k) =
-    subst (λ (t : Bool). IsLast (sections_after truths ss (directive_of x.sign)) (if t then Some x else here) (Some x)) (sym (ap (λ (t : Bool). not t && all_kept ss) g ∙ k)) (record {
-      same = λ j. absurd (both_ways (all_kept ss) (l.kept j) k);
-      kept = λ j. absurd (both_ways (all_kept ss) (l.kept j) k);
-    })
-
-last_more : (keep : Bool) (x : Item) (here : Option Item) (ys : List Item) → last_from here (if keep then x ∷ ys else ys) ≡ last_from (if keep then Some x else here) ys
-last_more true x here ys = refl
-last_more false x here ys = refl
-
-last_kept : (truths : List Bool) (ss : List Section) (here all : Option Item) (kind : NameKind) (items : List Item) → AreApart kind (joins all) items → IsLast ss here all
-    → joins (last_from here (kept_from truths ss items)) ≡ true → last_from here (kept_from truths ss items) ≡ last_from all items
-last_kept truths ss here all kind [] h l j = l.same j
-last_kept truths ss here all kind (x ∷ xs) h l j =
-    let is = last_more (not (is_group x.sign) && all_kept ss) x here (kept_from truths (sections_after truths ss (directive_of x.sign)) xs) in
-    is ∙ last_kept truths (sections_after truths ss (directive_of x.sign)) (if (not (is_group x.sign) && all_kept ss) then Some x else here) (Some x) (kind_behind kind x.sign) xs h.1
-    (last_next truths ss x here all kind l h.0 (chosen (is_group x.sign) (all_kept ss))) (ap joins (sym is) ∙ j)
+    (constants_kept truths (sections_after truths ss (directive_of x.sign)) (if (not (is_group x.sign) && all_kept ss) then kind_behind here x.sign else here) (kind_behind all x.sign) xs h.1
+    (like_next kind_next kinds.Variable (λ y g. no_kind y.sign g) truths ss x here all l h.0))
 
 -- ---- names that are changed
+
+-- the last item, where a statement or a declaration goes on behind it
+abbrev joined_by : Item → Option Item
+joined_by x = if is_joining x.sign then Some x else None
+
+abbrev joined : Option Item → Option Item
+joined None = None
+joined (Some x) = joined_by x
+
+abbrev joined_next : Option Item → Item → Option Item
+joined_next last x = joined_by x
+
+-- at a directive it is none
+none_joined : (kind : NameKind) (last : Option Item) (joins : Bool) (items : List Item) → AreApart kind joins items → (joins ≡ false → last ≡ None) → KnowNothing joined_next None last items
+none_joined kind last joins [] h none = tt
+none_joined kind last joins (x ∷ xs) h none = (
+  λ g. none (subst (λ (t : Bool). IsBetween t kind joins) g h.0).1,
+  none_joined (kind_behind kind x.sign) (joined_by x) (is_joining x.sign) xs h.1 (λ e. ap (λ (t : Bool). if t then Some x else None) e),
+)
+
+last_joined : (last : Option Item) (items : List Item) → joined (last_from last items) ≡ known_behind joined_next (joined last) items
+last_joined last [] = refl
+last_joined last (x ∷ xs) = last_joined (Some x) xs
+
+joined_kept : (truths : List Bool) (before : List Item) → AreApart kinds.Variable false before → is_kept truths before ≡ true → joined (last_from None (kept truths before)) ≡ joined (last_from None before)
+joined_kept truths before h k =
+    last_joined None (kept truths before)
+    ∙ known_same joined_next None (λ x g. ap (λ (t : Bool). if t then Some x else None) (no_join x.sign g)) truths before (none_joined kinds.Variable None false before h (λ _. refl)) k
+    ∙ sym (last_joined None before)
 
 no_name_at : (b : Bool) (s : Sign) (p : Place) → is_joining s ≡ false → name_at b s p ≡ None
 no_name_at true (signs.Name n) p h = absurd cc
@@ -175,16 +129,22 @@ no_change_from p signs.PlusPlus y h = absurd cc
 no_change_from p signs.MinusMinus y h = absurd cc
 no_change_from p s y h = no_name_at (is_change y.sign) s p h
 
-no_change : (o : Option Item) (y : Item) → joins o ≡ false → changed_behind o y ≡ None
-no_change None y h = refl
-no_change (Some x) y h = no_change_from x.place x.sign y h
-
--- a name that is changed in what stays is changed
-pub changes_kept : (truths : List Bool) (before : List Item) (x : Item) → AreApart kinds.Variable false before → (changed_at (kept truths before) x ≡ None) ⊎ (changed_at (kept truths before) x ≡ changed_at before x)
-changes_kept truths before x h = elim (joins (last_from None (kept truths before))) as (λ b. joins (last_from None (kept truths before)) ≡ b → (changed_at (kept truths before) x ≡ None) ⊎ (changed_at (kept truths before) x ≡ changed_at before x)) [
-  | true ↦ λ j. inr (ap (λ (o : Option Item). changed_behind o x) (last_kept truths [] None None kinds.Variable before h (record { same = λ e. absurd cc; kept = λ e. absurd cc }) j))
-  | false ↦ λ j. inl (no_change (last_from None (kept truths before)) x j)
+-- behind another one nothing is changed
+by_joined : (last : Option Item) (y : Item) → changed_behind last y ≡ changed_behind (joined last) y
+by_joined None y = refl
+by_joined (Some x) y = elim (is_joining x.sign) as (λ b. is_joining x.sign ≡ b → changed_from x.place x.sign y ≡ changed_behind (if b then Some x else None) y) [
+  | true ↦ λ e. refl
+  | false ↦ λ e. no_change_from x.place x.sign y e
 ] refl
+
+-- an item that stays changes in what stays what it changes
+changes_kept : (truths : List Bool) (before : List Item) (x : Item) → AreApart kinds.Variable false before → StandOutside false None before → is_kept truths before ≡ true → changed_at (kept truths before) x ≡ changed_at before x
+changes_kept truths before x a h k =
+    ap (λ (o : Option ℕ). changed_outside o (last_from None (kept truths before)) x) (open_kept truths before h k)
+    ∙ (elim (open_behind before) as (λ o. changed_outside o (last_from None (kept truths before)) x ≡ changed_outside o (last_from None before) x) [
+      | None ↦ by_joined (last_from None (kept truths before)) x ∙ ap (λ (o : Option Item). changed_behind o x) (joined_kept truths before a k) ∙ sym (by_joined (last_from None before) x)
+      | (Some n) ↦ refl
+    ])
 
 -- ---- the constants of what stays
 
@@ -200,11 +160,24 @@ main_of_constants truths ss kind (x ∷ xs) h = elim (is_constant kind || not (i
       main_of_constants truths ss (kind_behind kind x.sign) xs k)
 ] refl
 
-pub constants_alone : (truths : List Bool) (before : List Item) → AreApart kinds.Variable false before → MainStays truths [] before → alone.constants_by (kept truths before) ≡ constants_at truths before
-constants_alone truths before h m =
+-- behind a name that is left out no directive stands
+no_declarer_left : (kind : NameKind) (joins here all : Bool) (items : List Item) → AreApart kind joins items → KnowNothing (by_last is_declaring) false all items → (joins ≡ false → here ≡ all) → KnowNothing (by_last is_declaring) false here (constants_from kind items)
+no_declarer_left kind joins here all [] h d same = tt
+no_declarer_left kind joins here all (x ∷ xs) h d same =
+    let now = is_declaring x.sign in
+    let later = kind_behind kind x.sign in
+    let at_directive : is_group x.sign ≡ true → here ≡ false = λ g. same (subst (λ (t : Bool). IsBetween t kind joins) g h.0).1 ∙ d.0 g in
+    elim (is_constant kind || not (is_name x.sign)) as (λ t. (is_constant kind || not (is_name x.sign)) ≡ t
+    → KnowNothing (by_last is_declaring) false here (if t then x ∷ constants_from (kind_behind kind x.sign) xs else constants_from (kind_behind kind x.sign) xs)) [
+      | true ↦ λ e. (at_directive, no_declarer_left later (is_joining x.sign) now now xs h.1 d.1 (λ _. refl))
+      | false ↦ λ e. no_declarer_left later (is_joining x.sign) here now xs h.1 d.1 (λ j. absurd (both_ways (is_joining x.sign) (ap is_joining (left_out (is_constant kind) x.sign e).1) j))
+    ] refl
+
+pub constants_alone : (truths : List Bool) (before : List Item) → AreApart kinds.Variable false before → StandOutside false None before → MainStays truths [] before → alone.constants_by (kept truths before) ≡ constants_at truths before
+constants_alone truths before a h m =
     declared_alone (of_constants (kept truths before))
-    ∙ ap declared_by (constants_kept truths [] kinds.Variable kinds.Variable false before h (record { kept = λ _. refl; gone = λ _. refl }))
-    ∙ declared_kept truths (of_constants before) (main_of_constants truths [] kinds.Variable before m)
+    ∙ ap declared_by (constants_kept truths [] kinds.Variable kinds.Variable before (no_constant kinds.Variable false before a) (record { kept = λ _. refl; gone = λ _. refl }))
+    ∙ ap names_of (declarations_kept truths (of_constants before) (no_declarer_left kinds.Variable false false false before a (no_declarer false None before h) (λ _. refl)) (main_of_constants truths [] kinds.Variable before m))
 
 -- ---- a change without a fault
 
@@ -225,15 +198,13 @@ by_change context o values before None a v k d = refl
 by_change context o values before (Some change) a v k d = not_constant (o.values ++ constants_at (truths_at context values) before) change
     (unchanged context o values before change.0 a k (nowhere context.model (is_met_constant context before change.0) (λ example. ChangedConstant) None values d v))
 
-pub change_fine : (context : NameContext) (o : alone.Outside) (values : List ℤ) (before : List Item) (x : Item) → AreOutside context o → AreApart kinds.Variable false before → IsValid (plain context.model) values → MainStays (truths_at context values) [] before → IsChangeFault context before x None
-    → is_kept (truths_at context values) before ≡ true → alone.change_fault o (kept (truths_at context values) before) x ≡ None
-change_fine context o values before x a h v m c k =
+pub change_fine : (context : NameContext) (o : alone.Outside) (values : List ℤ) (before : List Item) (x : Item) → AreOutside context o → AreApart kinds.Variable false before → StandOutside false None before → IsValid (plain context.model) values → MainStays (truths_at context values) [] before
+    → IsChangeFault context before x None → is_kept (truths_at context values) before ≡ true → alone.change_fault o (kept (truths_at context values) before) x ≡ None
+change_fine context o values before x out a h v m c k =
     let truths = truths_at context values in
-    ap (λ (b : Bool). if b then alone.constant_fault (o.values ++ alone.constants_by (kept truths before)) (changed_at (kept truths before) x) else None) (has_same (kept truths before) ∙ has_main_kept truths [] before m)
+    ap (λ (b : Bool). if b then alone.constant_fault (o.values ++ alone.constants_by (kept truths before)) (changed_at (kept truths before) x) else None) (has_main_kept truths [] before m)
     ∙ (elim (has_main before) as (λ b. IsEither b (IsChangeOf context before (changed_at before x) None) (◌≡◌ {A = Option FileCode} None None) → (if b then alone.constant_fault (o.values ++ alone.constants_by (kept (truths_at context values) before)) (changed_at (kept (truths_at context values) before) x) else None) ≡ None) [
-      | true ↦ λ d. ap (λ (ns : List ℕ). alone.constant_fault (o.values ++ ns) (changed_at (kept truths before) x)) (constants_alone truths before h m) ∙ (elim (changes_kept truths before x h) [
-        | inl e ↦ ap (alone.constant_fault (o.values ++ constants_at truths before)) e
-        | inr e ↦ ap (alone.constant_fault (o.values ++ constants_at truths before)) e ∙ by_change context o values before (changed_at before x) a v k d
-      ])
+      | true ↦ λ d. ap (λ (ns : List ℕ). alone.constant_fault (o.values ++ ns) (changed_at (kept truths before) x)) (constants_alone truths before a h m)
+          ∙ ap (alone.constant_fault (o.values ++ constants_at truths before)) (changes_kept truths before x a h k) ∙ by_change context o values before (changed_at before x) out v k d
       | false ↦ λ d. refl
     ] c)

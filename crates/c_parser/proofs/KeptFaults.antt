@@ -1,5 +1,5 @@
 -- The items that stay at a valid configuration have no fault of a name, where those of the family have none.
-use Rattle.std.proofs.Common.{◌≡◌, Bool, true, false, List, [], ◌∷◌, ◌++◌, Option, None, refl, sym, ap, subst, ◌∙◌, append_assoc, append-nil, cond, not, ◌&&◌}
+use Rattle.std.proofs.Common.{◌≡◌, true, false, List, [], ◌∷◌, ◌++◌, Option, None, refl, sym, ap, subst, ◌∙◌, append_assoc, append-nil, cond, not}
 use Rattle.std.specs.Prelude.{ℤ, option_map}
 use Rattle.fam_outer.specs.declared.faults.FileCode.{FileCode}
 use Rattle.fam_outer.specs.declared.faults.Place.{Place}
@@ -12,49 +12,47 @@ use Rattle.c_grammar.specs.declared.items.Item.{Item}
 use Rattle.c_grammar.specs.Constants.{AreApart}
 use Rattle.c_grammar.specs.Grammar.{is_group}
 use Rattle.c_grammar.specs.Kept.{directive_of, kept_from, kept}
+use Rattle.c_grammar.specs.Locals.{AreOutside as StandOutside}
 use Rattle.family_names.specs.Names as family
 use Rattle.family_names.specs.Names.{NameContext, truths_at, sections_behind, is_kept, IsNameFault, IsChangeFault, IsChangeOr, changed_place, IsFaultFrom}
 use Rattle.c_parser.specs.Names as alone
 use Rattle.c_parser.proofs.FewNames.{later_of}
-use Rattle.c_parser.proofs.KeptNames.{AreOutside, MainStays, AreJudged, stays_next, kept_next, stays_before, behind_more, next}
+use Rattle.c_parser.proofs.FineNames.{next}
+use Rattle.c_parser.proofs.KeptNames.{AreOutside, MainStays, stays_next, kept_next, stays_before, stand_before, behind_more, and_right}
 use Rattle.c_parser.proofs.KeptConstants.{apart_before, change_fine}
 use Rattle.c_parser.proofs.KeptFunctions.{function_fine}
 
 no_fault_first : (o : Option FileCode) (place : Place) (later : Option (FileCode × Place)) → o ≡ None → later ≡ None → or_later (option_map (λ code. (code, place)) o) later ≡ None
 no_fault_first o place later e h = ap (λ (c : Option FileCode). or_later (option_map (λ code. (code, place)) c) later) e ∙ h
 
-and_right : (a b : Bool) → (a && b) ≡ true → b ≡ true
-and_right true b h = h
-and_right false b h = absurd cc
-
-walk : (context : NameContext) (o : alone.Outside) (values : List ℤ) (before xs : List Item) → AreOutside context o → AreApart kinds.Variable false (before ++ xs) → IsFaultFrom context before xs None → IsValid (plain context.model) values → MainStays (truths_at context values) [] (before ++ xs) → AreJudged (truths_at context values) before
+walk : (context : NameContext) (o : alone.Outside) (values : List ℤ) (before xs : List Item) → AreOutside context o → AreApart kinds.Variable false (before ++ xs) → StandOutside false None (before ++ xs) → IsFaultFrom context before xs None → IsValid (plain context.model) values → MainStays (truths_at context values) [] (before ++ xs)
     → alone.name_fault_from o (kept (truths_at context values) before) (kept_from (truths_at context values) (sections_behind (truths_at context values) [] before) xs) ≡ None
-walk context o values before [] out a h v m j = refl
-walk context o values before (x ∷ xs) out a h v m j =
+walk context o values before [] out a s h v m = refl
+walk context o values before (x ∷ xs) out a s h v m =
     let truths = truths_at context values in
-    let sections = sections_behind truths [] before in
     let more = kept_from truths (sections_after truths (sections_behind truths [] before) (directive_of x.sign)) xs in
     let l = later_of h.0 x.place (IsChangeOr context before x None (IsFaultFrom context (before ++ x ∷ []) xs None)) h.2 in
     let d = later_of l.1.0 (changed_place before x) (IsFaultFrom context (before ++ x ∷ []) xs None) l.1.2 in
-    let apart : AreApart kinds.Variable false ((before ++ x ∷ []) ++ xs) = subst (AreApart kinds.Variable false) (sym (append_assoc before (x ∷ []) xs)) a in
     let unchanged = subst (λ (c : Option FileCode). IsChangeFault context before x c) d.0 l.1.1 in
-    let all : MainStays truths [] ((before ++ x ∷ []) ++ xs) = subst (MainStays truths []) (sym (append_assoc before (x ∷ []) xs)) m in
     let fine = subst (λ (c : Option FileCode). IsNameFault context before x.sign c) l.0 h.1 in
-    let before_apart = apart_before kinds.Variable false before (x ∷ xs) a in
-    let stay = stays_before truths [] before (x ∷ xs) m in
-    let here = next context o values before x out v stay fine (function_fine context o values before x before_apart v stay fine) j in
+    let apart = apart_before kinds.Variable false before (x ∷ xs) a in
+    let stand = stand_before before (x ∷ xs) s in
+    let main = stays_before truths [] before (x ∷ xs) m in
+    let same : before ++ x ∷ xs ≡ (before ++ x ∷ []) ++ xs = sym (append_assoc before (x ∷ []) xs) in
+    let all = walk context o values (before ++ x ∷ []) xs out (subst (AreApart kinds.Variable false) same a) (subst (StandOutside false None) same s) d.1 v (subst (MainStays truths []) same m) in
     let rest : alone.name_fault_from o (kept truths (before ++ x ∷ [])) more ≡ None =
-    subst (λ (ss : List Section). alone.name_fault_from o (kept truths (before ++ x ∷ [])) (kept_from truths ss xs) ≡ None) (behind_more truths [] before (x ∷ [])) (walk context o values (before ++ x ∷ []) xs out apart d.1 v all here.judged) in
+    subst (λ (ss : List Section). alone.name_fault_from o (kept truths (before ++ x ∷ [])) (kept_from truths ss xs) ≡ None) (behind_more truths [] before (x ∷ [])) all in
     elim (stays_next truths before x) as (λ b. stays_next truths before x ≡ b → alone.name_fault_from o (kept truths before) (cond b (x ∷ more) more) ≡ None) [
-      | true ↦ λ k. no_fault_first (alone.name_fault o (kept truths before) x.sign) x.place (or_later (alone.change_fault o (kept truths before) x) (alone.name_fault_from o (kept truths before ++ x ∷ []) more)) (here.fine k)
+      | true ↦ λ k. no_fault_first (alone.name_fault o (kept truths before) x.sign) x.place (or_later (alone.change_fault o (kept truths before) x) (alone.name_fault_from o (kept truths before ++ x ∷ []) more))
+          (next context o values before x out stand v main fine (function_fine context o values before x apart v main fine) k)
           (ap (λ (f : Option (FileCode × Place)). or_later f (alone.name_fault_from o (kept truths before ++ x ∷ []) more))
-          (change_fine context o values before x out before_apart v stay unchanged (and_right (not (is_group x.sign)) (is_kept truths before) k))
+          (change_fine context o values before x out apart stand v main unchanged (and_right (not (is_group x.sign)) (is_kept truths before) k))
           ∙ ap (λ (w : List Item). alone.name_fault_from o w more) (sym (kept_next truths before x true k)) ∙ rest)
       | false ↦ λ k. ap (λ (w : List Item). alone.name_fault_from o w more) (sym (kept_next truths before x false k ∙ append-nil (kept truths before))) ∙ rest
     ] refl
 
 -- the items that stay at a valid configuration have no fault of a name, where the values from outside are those of the features
-pub kept_fine : (context : NameContext) (o : alone.Outside) (items : List Item) (values : List ℤ) → AreOutside context o → AreApart kinds.Variable false items → family.IsFirstNameFault context items None → IsValid (plain context.model) values → MainStays (truths_at context values) [] items
+pub kept_fine : (context : NameContext) (o : alone.Outside) (items : List Item) (values : List ℤ) → AreOutside context o → AreApart kinds.Variable false items → StandOutside false None items → family.IsFirstNameFault context items None → IsValid (plain context.model) values → MainStays (truths_at context values) [] items
     → alone.first_name_fault o (kept (truths_at context values) items) ≡ None
 unfolding alone.first_name_fault
-kept_fine context o items values out a h v m = walk context o values [] items out a h v m tt
+kept_fine context o items values out a s h v m = walk context o values [] items out a s h v m

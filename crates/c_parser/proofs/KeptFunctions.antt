@@ -16,11 +16,11 @@ use Rattle.c_grammar.specs.Functions.{is_void, is_equals, is_function, function_
 use Rattle.c_grammar.specs.Grammar.{is_group}
 use Rattle.c_grammar.specs.Kept.{directive_of, kept_from, kept}
 use Rattle.family_names.specs.Functions.{functions_at, callable_by, callable_at}
-use Rattle.family_names.specs.Names.{NameContext, truths_at, is_main, has_main, until_main, is_among, sections_behind, is_kept, is_met_unlike, is_uncallable, function_fault, IsWithFirst, IsEither, IsNameFault, IsCallFault, IsPrototypeFault}
+use Rattle.family_names.specs.Names.{NameContext, truths_at, is_main, has_main, until_main, is_among, is_kept, is_met_unlike, is_uncallable, function_fault, IsWithFirst, IsEither, IsNameFault, IsCallFault, IsPrototypeFault}
 use Rattle.c_parser.specs.Names as alone
-use Rattle.c_parser.proofs.PrototypesBehind.{ends_as, stands_last, function_out}
-use Rattle.c_parser.proofs.KeptConstants.{Choice, stays, directs, goes, chosen, both_ways, same_sections, right, either}
-use Rattle.c_parser.proofs.KeptNames.{MainStays, has_same, has_main_kept, main_same, until_main_kept, nowhere, stays_next, and_right, not_false}
+use Rattle.c_parser.proofs.PrototypesBehind.{function_out}
+use Rattle.c_parser.proofs.KeptNames.{MainStays, has_main_kept, until_main_kept, nowhere, stays_next, and_right, not_false}
+use Rattle.c_parser.proofs.KeptStates.{both_ways, AreLike, like_next, AreOthers, no_join, KnowNothing, by_last, stands_kept, by_out, right, either}
 
 -- ---- what stands last
 
@@ -36,75 +36,27 @@ equals_joins : Joins is_equals
 equals_joins signs.Equals e = refl
 equals_joins _ e = absurd cc
 
--- a directive joins nothing
-group_ends : (s : Sign) → is_group s ≡ true → is_joining s ≡ false
-group_ends (signs.GroupIf n) e = refl
-group_ends (signs.GroupElif n) e = refl
-group_ends signs.GroupElse e = refl
-group_ends signs.GroupEnd e = refl
-group_ends _ e = absurd cc
-
 not_so : (b joined : Bool) → (b ≡ true → joined ≡ true) → joined ≡ false → b ≡ false
 not_so true joined h e = absurd (both_ways joined (h refl) e)
 not_so false joined h e = refl
 
--- what stands last has such a sign: in what stays, and in all
-record AreLike (ss : List Section) (here all : Bool) : Type 0 where
-  kept : all_kept ss ≡ true → here ≡ all
-  gone : all_kept ss ≡ false → here ≡ false
+others : (is : Sign → Bool) → Joins is → AreOthers is
+others is joins s g = not_so (is s) (is_joining s) (joins s) (no_join s g)
 
-like_next : (is : Sign → Bool) → Joins is → (truths : List Bool) (ss : List Section) (s : Sign) (here all : Bool) (kind : NameKind) (joined : Bool) → AreLike ss here all → (all ≡ true → joined ≡ true) → IsBetween (is_group s) kind joined → Choice (is_group s) (all_kept ss)
-    → AreLike (sections_after truths ss (directive_of s)) (if (not (is_group s) && all_kept ss) then is s else here) (is s)
-like_next is joins truths ss s here all kind joined l h b (stays g k) =
-    subst (λ (t : Bool). AreLike (sections_after truths ss (directive_of s)) (if t then is s else here) (is s)) (sym (ap (λ (t : Bool). not t && all_kept ss) g ∙ k))
-    (subst (λ (us : List Section). AreLike us (is s) (is s)) (sym (same_sections truths ss s g)) (record {
-      kept = λ _. refl;
-      gone = λ e. absurd (both_ways (all_kept ss) k e);
-    }))
-like_next is joins truths ss s here all kind joined l h b (directs g) =
-    let between : (kind ≡ kinds.Variable) × (joined ≡ false) = subst (λ (t : Bool). IsBetween t kind joined) g b in
-    let none : here ≡ false = elim (all_kept ss) as (λ k. all_kept ss ≡ k → here ≡ false) [ true ↦ λ k. l.kept k ∙ not_so all joined h between.1 | false ↦ λ k. l.gone k ] refl in
-    let other : is s ≡ false = not_so (is s) (is_joining s) (joins s) (group_ends s g) in
-    subst (λ (t : Bool). AreLike (sections_after truths ss (directive_of s)) (if (not t && all_kept ss) then is s else here) (is s)) (sym g) (record {
-      kept = λ _. none ∙ sym other;
-      gone = λ _. none;
-    })
-like_next is joins truths ss s here all kind joined l h b (goes g k) =
-    subst (λ (t : Bool). AreLike (sections_after truths ss (directive_of s)) (if t then is s else here) (is s)) (sym (ap (λ (t : Bool). not t && all_kept ss) g ∙ k))
-    (subst (λ (us : List Section). AreLike us here (is s)) (sym (same_sections truths ss s g)) (record {
-      kept = λ e. absurd (both_ways (all_kept ss) e k);
-      gone = λ _. l.gone k;
-    }))
-
-ends_more : (is : Sign → Bool) (keep here : Bool) (x : Item) (ys : List Item) → ends_as is here (if keep then x ∷ ys else ys) ≡ ends_as is (if keep then is x.sign else here) ys
-ends_more is true here x ys = refl
-ends_more is false here x ys = refl
-
-ends_kept : (is : Sign → Bool) → Joins is → (truths : List Bool) (ss : List Section) (here all : Bool) (kind : NameKind) (joined : Bool) (items : List Item) → AreApart kind joined items → (all ≡ true → joined ≡ true) → AreLike ss here all
-    → AreLike (sections_behind truths ss items) (ends_as is here (kept_from truths ss items)) (ends_as is all items)
-ends_kept is joins truths ss here all kind joined [] a h l = l
-ends_kept is joins truths ss here all kind joined (x ∷ xs) a h l =
-    let us = sections_after truths ss (directive_of x.sign) in
-    subst (λ (b : Bool). AreLike (sections_behind truths (sections_after truths ss (directive_of x.sign)) xs) b (ends_as is (is x.sign) xs))
-    (sym (ends_more is (not (is_group x.sign) && all_kept ss) here x (kept_from truths (sections_after truths ss (directive_of x.sign)) xs)))
-    (ends_kept is joins truths us (if (not (is_group x.sign) && all_kept ss) then is x.sign else here) (is x.sign) (kind_behind kind x.sign) (is_joining x.sign) xs a.1 (joins x.sign)
-    (like_next is joins truths ss x.sign here all kind joined l h a.0 (chosen (is_group x.sign) (all_kept ss))))
+-- no directive stands behind such a sign
+none_joined : (is : Sign → Bool) → Joins is → (kind : NameKind) (joined all : Bool) (items : List Item) → AreApart kind joined items → (all ≡ true → joined ≡ true) → KnowNothing (by_last is) false all items
+none_joined is joins kind joined all [] a h = tt
+none_joined is joins kind joined all (x ∷ xs) a h =
+    (λ g. not_so all joined h (subst (λ (t : Bool). IsBetween t kind joined) g a.0).1, none_joined is joins (kind_behind kind x.sign) (is_joining x.sign) (is x.sign) xs a.1 (joins x.sign))
 
 -- what stands directly before an item that stays is what stands there in what stays
-stands_kept : (is : Sign → Bool) → Joins is → (truths : List Bool) (before : List Item) → AreApart kinds.Variable false before → is_kept truths before ≡ true → stands_behind is (kept truths before) ≡ stands_behind is before
-stands_kept is joins truths before a k =
-    stands_last is (kept truths before)
-    ∙ (ends_kept is joins truths [] false false kinds.Variable false before a (λ e. absurd cc) (record { kept = λ _. refl; gone = λ _. refl })).kept k
-    ∙ sym (stands_last is before)
+joins_kept : (is : Sign → Bool) → Joins is → (truths : List Bool) (before : List Item) → AreApart kinds.Variable false before → is_kept truths before ≡ true → stands_behind is (kept truths before) ≡ stands_behind is before
+joins_kept is joins truths before a k = stands_kept is (others is joins) truths before (none_joined is joins kinds.Variable false false before a (λ e. absurd cc)) k
 
 -- ---- the functions of what stays
 
--- an item in front, left out where it is a function that is declared otherwise
-by_out : (truths : List Bool) (ss : List Section) (x : Item) (ys : List Item) (asked out keep : Bool) → (is_function x.sign && asked) ≡ out → (not (is_group x.sign) && all_kept ss) ≡ keep
-    → (if out then kept_from truths (sections_after truths ss (directive_of x.sign)) ys else (if keep then x ∷ kept_from truths (sections_after truths ss (directive_of x.sign)) ys else kept_from truths (sections_after truths ss (directive_of x.sign)) ys))
-    ≡ kept_from truths ss (if out then ys else x ∷ ys)
-by_out truths ss x ys asked true keep e k = ap (λ (us : List Section). kept_from truths us ys) (same_sections truths ss x.sign (ap is_group (function_out x.sign asked e).1))
-by_out truths ss x ys asked false keep e k = ap (λ (b : Bool). if b then x ∷ kept_from truths (sections_after truths ss (directive_of x.sign)) ys else kept_from truths (sections_after truths ss (directive_of x.sign)) ys) (sym k)
+function_plain : (b : Bool) (s : Sign) → (is_function s && b) ≡ true → is_group s ≡ false
+function_plain b s e = ap is_group (function_out s b e).1
 
 here_or_gone : (truths : List Bool) (ss : List Section) (void here all : Bool) (x : Item) (xs : List Item) (keep : Bool) → (not (is_group x.sign) && all_kept ss) ≡ keep → (keep ≡ true → here ≡ all)
     → functions_from void (if keep then is_void x.sign else here) (kept_from truths (sections_after truths ss (directive_of x.sign)) xs) ≡ kept_from truths (sections_after truths ss (directive_of x.sign)) (functions_from void (is_void x.sign) xs)
@@ -112,20 +64,19 @@ here_or_gone : (truths : List Bool) (ss : List Section) (void here all : Bool) (
 here_or_gone truths ss void here all x xs true k same rest =
     ap (λ (b : Bool). if is_function x.sign && not (is_as_asked void b) then functions_from void (is_void x.sign) (kept_from truths (sections_after truths ss (directive_of x.sign)) xs) else x ∷ functions_from void (is_void x.sign) (kept_from truths (sections_after truths ss (directive_of x.sign)) xs)) (same refl)
     ∙ ap (λ (ys : List Item). if is_function x.sign && not (is_as_asked void all) then ys else x ∷ ys) rest
-    ∙ by_out truths ss x (functions_from void (is_void x.sign) xs) (not (is_as_asked void all)) (is_function x.sign && not (is_as_asked void all)) true refl k
+    ∙ by_out truths ss x (functions_from void (is_void x.sign) xs) (is_function x.sign && not (is_as_asked void all)) true (function_plain (not (is_as_asked void all)) x.sign) k
 here_or_gone truths ss void here all x xs false k same rest =
     rest
     ∙ sym (either (is_function x.sign && not (is_as_asked void all)) (kept_from truths (sections_after truths ss (directive_of x.sign)) (functions_from void (is_void x.sign) xs)))
-    ∙ by_out truths ss x (functions_from void (is_void x.sign) xs) (not (is_as_asked void all)) (is_function x.sign && not (is_as_asked void all)) false refl k
+    ∙ by_out truths ss x (functions_from void (is_void x.sign) xs) (is_function x.sign && not (is_as_asked void all)) false (function_plain (not (is_as_asked void all)) x.sign) k
 
 -- the functions of what stays are what stays of the functions
-functions_kept : (truths : List Bool) (ss : List Section) (void here all : Bool) (kind : NameKind) (joined : Bool) (items : List Item) → AreApart kind joined items → (all ≡ true → joined ≡ true) → AreLike ss here all
-    → functions_from void here (kept_from truths ss items) ≡ kept_from truths ss (functions_from void all items)
-functions_kept truths ss void here all kind joined [] a h l = refl
-functions_kept truths ss void here all kind joined (x ∷ xs) a h l =
+functions_kept : (truths : List Bool) (ss : List Section) (void here all : Bool) (items : List Item) → KnowNothing (by_last is_void) false all items → AreLike false ss here all → functions_from void here (kept_from truths ss items) ≡ kept_from truths ss (functions_from void all items)
+functions_kept truths ss void here all [] h l = refl
+functions_kept truths ss void here all (x ∷ xs) h l =
     here_or_gone truths ss void here all x xs (not (is_group x.sign) && all_kept ss) refl (λ k. l.kept (right (not (is_group x.sign)) (all_kept ss) k))
-    (functions_kept truths (sections_after truths ss (directive_of x.sign)) void (if (not (is_group x.sign) && all_kept ss) then is_void x.sign else here) (is_void x.sign) (kind_behind kind x.sign) (is_joining x.sign) xs a.1 (void_joins x.sign)
-    (like_next is_void void_joins truths ss x.sign here all kind joined l h a.0 (chosen (is_group x.sign) (all_kept ss))))
+    (functions_kept truths (sections_after truths ss (directive_of x.sign)) void (if (not (is_group x.sign) && all_kept ss) then is_void x.sign else here) (is_void x.sign) xs h.1
+    (like_next (by_last is_void) false (λ y g. others is_void void_joins y.sign g) truths ss x here all l h.0))
 
 -- ---- the functions that what stays declares
 
@@ -144,17 +95,15 @@ main_of_functions truths ss void behind (x ∷ xs) h =
 
 prototypes_alone : (xs : List Item) → alone.prototypes_of xs ≡ functions_of (until_main xs)
 prototypes_alone [] = refl
-prototypes_alone (x ∷ xs) =
-    ap (λ (b : Bool). if b then [] else function_of x.sign ++ alone.prototypes_of xs) (main_same x.sign)
-    ∙ (elim (is_main x.sign) as (λ b. (if b then [] else function_of x.sign ++ alone.prototypes_of xs) ≡ functions_of (if b then [] else x ∷ until_main xs)) [
-      | true ↦ refl
-      | false ↦ ap (λ (ns : List ℕ). function_of x.sign ++ ns) (prototypes_alone xs)
-    ])
+prototypes_alone (x ∷ xs) = elim (is_main x.sign) as (λ b. (if b then [] else function_of x.sign ++ alone.prototypes_of xs) ≡ functions_of (if b then [] else x ∷ until_main xs)) [
+  | true ↦ refl
+  | false ↦ ap (λ (ns : List ℕ). function_of x.sign ++ ns) (prototypes_alone xs)
+]
 
 pub functions_alone : (truths : List Bool) (void : Bool) (before : List Item) → AreApart kinds.Variable false before → MainStays truths [] before → alone.functions_by void (kept truths before) ≡ functions_at truths void before
 functions_alone truths void before a m =
     prototypes_alone (of_functions void (kept truths before))
-    ∙ ap (λ (ys : List Item). functions_of (until_main ys)) (functions_kept truths [] void false false kinds.Variable false before a (λ e. absurd cc) (record { kept = λ _. refl; gone = λ _. refl }))
+    ∙ ap (λ (ys : List Item). functions_of (until_main ys)) (functions_kept truths [] void false false before (none_joined is_void void_joins kinds.Variable false false before a (λ e. absurd cc)) (record { kept = λ _. refl; gone = λ _. refl }))
     ∙ ap functions_of (until_main_kept truths [] (of_functions void before) (main_of_functions truths [] void false before m))
 
 pub callable_alone : (truths : List Bool) (wants : Bool) (before : List Item) → AreApart kinds.Variable false before → MainStays truths [] before → alone.callable_by wants (kept truths before) ≡ callable_at truths wants before
@@ -164,10 +113,10 @@ callable_alone truths false before a m =
     ∙ ap (λ (ns : List ℕ). functions_at truths false before ++ ns) (functions_alone truths true before a m)
 
 pub void_kept : (truths : List Bool) (before : List Item) → AreApart kinds.Variable false before → is_kept truths before ≡ true → stands_behind is_void (kept truths before) ≡ stands_behind is_void before
-void_kept truths before a k = stands_kept is_void void_joins truths before a k
+void_kept truths before a k = joins_kept is_void void_joins truths before a k
 
 pub equals_kept : (truths : List Bool) (before : List Item) → AreApart kinds.Variable false before → is_kept truths before ≡ true → stands_behind is_equals (kept truths before) ≡ stands_behind is_equals before
-equals_kept truths before a k = stands_kept is_equals equals_joins truths before a k
+equals_kept truths before a k = joins_kept is_equals equals_joins truths before a k
 
 -- the fault of a function that stays is told by the functions that stay
 pub call_alone : (truths : List Bool) (before : List Item) (k : ℕ) → AreApart kinds.Variable false before → MainStays truths [] before → is_kept truths before ≡ true
@@ -214,7 +163,7 @@ function_fine context o values before x a v m h k e s =
     let truths = truths_at context values in
     let here : is_kept (truths_at context values) before ≡ true = and_right (not (is_group x.sign)) (is_kept truths before) s in
     ap (alone.name_fault o (kept truths before)) e
-    ∙ ap (λ (b : Bool). if b then alone.call_fault (kept truths before) k else alone.prototype_fault (kept truths before) k) (has_same (kept truths before) ∙ has_main_kept truths [] before m)
+    ∙ ap (λ (b : Bool). if b then alone.call_fault (kept truths before) k else alone.prototype_fault (kept truths before) k) (has_main_kept truths [] before m)
     ∙ elim (has_main before) as (λ b. IsEither b (IsCallFault context before k None) (IsPrototypeFault context before k None) → (if b then alone.call_fault (kept (truths_at context values) before) k else alone.prototype_fault (kept (truths_at context values) before) k) ≡ None) [
       | true ↦ λ c. call_fine context values before k a v m here c
       | false ↦ λ c. prototype_fine context values before k a v m here c

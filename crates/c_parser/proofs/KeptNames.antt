@@ -1,12 +1,9 @@
--- A name of the items that stay at a valid configuration has no fault, where it has none in the family.
-use Rattle.std.proofs.Common.{◌≡◌, ℕ, ◌+◌, nat_eq, nat_lt, Bool, true, false, not, ◌||◌, ◌&&◌, cond, List, [], ◌∷◌, ◌++◌, length, slice_get, Option, Some, None, refl, sym, ap, subst, ◌∙◌, append-nil, inl, inr, arith}
-use Rattle.std.specs.Prelude.{ℤ, ◌⊎◌, if◌then◌else◌}
+-- The names of the items that stay under the truths of conditions: which of them are declared, and where one is used.
+use Rattle.std.proofs.Common.{◌≡◌, ℕ, Bool, true, false, not, ◌||◌, ◌&&◌, cond, List, [], ◌∷◌, ◌++◌, slice_get, Option, Some, None, refl, sym, ap, subst, ◌∙◌}
+use Rattle.std.specs.Prelude.{ℤ, if◌then◌else◌}
 use Rattle.std.specs.List.{list_any}
 use Rattle.std.specs.Str.{bytes_eq}
-use Rattle.std.proofs.lemmas.Bool.Decides.{nat_tests}
-use Rattle.std.proofs.lemmas.List.Folds.{list_any-append}
 use Rattle.fam_outer.specs.declared.faults.FileCode.{FileCode}
-use Rattle.fam_outer.specs.declared.faults.FileCode.TheVariants.{Undeclared, Twice, FeatureInCode, TooManyVariables, TooManyConstants}
 use Rattle.linear_atoms.specs.declared.atoms.Config.{Config}
 use Rattle.linear_atoms.specs.declared.atoms.Feature.{Feature}
 use Rattle.atom_solver.specs.Solutions.{Finds}
@@ -17,48 +14,27 @@ use Rattle.cpp_groups.specs.Kept.{all_kept, sections_after}
 use Rattle.c_grammar.specs.declared.items.Item.{Item}
 use Rattle.c_grammar.specs.declared.items.Sign.{Sign}
 use Rattle.c_grammar.specs.declared.items.Sign.TheVariants as signs
+use Rattle.c_grammar.specs.Constants.{is_name}
 use Rattle.c_grammar.specs.Grammar.{is_group}
 use Rattle.c_grammar.specs.Kept.{directive_of, kept_from, kept}
-use Rattle.c_grammar.specs.declared.constants.NameKind.TheVariants as kinds
-use Rattle.c_grammar.specs.Constants.{is_constant, kind_after}
-use Rattle.c_grammar.specs.Functions.{function_of}
-use Rattle.family_names.specs.Names.{NameContext, truths_at, is_main, has_main, until_main, name_of, names_of, declared_by, declared_at, constants_of, variables_of, values_of, is_among, sections_behind, is_kept, is_missed, is_met_again, is_feature_name, is_feature, feature_in, named_feature, is_integer, is_value, value_fault, full_fault, new_name_fault, IsWithFirst, IsEither, IsNameFault, IsUseFault, IsDeclarationFault, code_with}
+use Rattle.c_grammar.specs.Locals.{is_declaring, declares_behind, declarations_from, of_declarations, opened_by, open_from, open_behind, AreOutside as StandOutside, IsOutside}
+use Rattle.family_names.specs.Names.{NameContext, is_main, has_main, until_main, name_of, names_of, declared_by, declared_at, sections_behind, is_kept, is_feature_name, is_feature, feature_in, named_feature, is_integer, is_value, is_used_behind, IsWithFirst, IsEither, code_with}
 use Rattle.c_parser.specs.Names as alone
 use Rattle.c_parser.proofs.AmongNumbers.{neither}
-use Rattle.c_parser.proofs.FewNames.{declared_same, declared_more, silent_same, silent_one, names_this, no_feature, no_other}
+use Rattle.c_parser.proofs.KeptStates.{both_ways, AreLike, like_next, AreOthers, KnowNothing, known_behind, known_same, by_last, stands_kept, by_out, right, either}
 
--- ---- the names of a file without groups are judged by the same words
+-- ---- the names of a file without groups are those of the same items
 
-pub main_same : (s : Sign) → alone.is_main s ≡ is_main s
-main_same signs.Main = refl
-main_same _ = refl
-
-name_same : (s : Sign) → alone.name_of s ≡ name_of s
-name_same (signs.Name n) = refl
-name_same _ = refl
-
-pub has_same : (xs : List Item) → alone.has_main xs ≡ has_main xs
-has_same [] = refl
-has_same (x ∷ xs) = ap (λ (b : Bool). b || alone.has_main xs) (main_same x.sign) ∙ ap (λ (b : Bool). is_main x.sign || b) (has_same xs)
+names_alone : (xs : List Item) → alone.names_of xs ≡ names_of xs
+names_alone [] = refl
+names_alone (x ∷ xs) = ap (λ (ns : List ℕ). ns ++ alone.names_of xs) (name_same x.sign) ∙ ap (λ (ns : List ℕ). name_of x.sign ++ ns) (names_alone xs)
+  where
+    name_same : (s : Sign) → alone.name_of s ≡ name_of s
+    name_same (signs.Name n) = refl
+    name_same _ = refl
 
 pub declared_alone : (xs : List Item) → alone.declared_by xs ≡ declared_by xs
-declared_alone [] = refl
-declared_alone (x ∷ xs) =
-    ap (λ (b : Bool). cond b [] (alone.name_of x.sign ++ alone.declared_by xs)) (main_same x.sign)
-    ∙ (elim (is_main x.sign) as (λ b. cond b [] (alone.name_of x.sign ++ alone.declared_by xs) ≡ names_of (cond b [] (x ∷ until_main xs))) [
-      | true ↦ refl
-      | false ↦ ap (λ (ns : List ℕ). ns ++ alone.declared_by xs) (name_same x.sign) ∙ ap (λ (ns : List ℕ). name_of x.sign ++ ns) (declared_alone xs)
-    ])
-
-silent_fault : (o : alone.Outside) (before : List Item) (s : Sign) → name_of s ≡ [] → function_of s ≡ [] → alone.name_fault o before s ≡ None
-silent_fault o before (signs.Name n) e f = absurd cc
-silent_fault o before (signs.Function k) e f = absurd cc
-silent_fault o before _ e f = refl
-
--- the item is no function, or this
-function_this : (s : Sign) → (function_of s ≡ []) ⊎ ((k : ℕ) × (s ≡ signs.Function k))
-function_this (signs.Function k) = inr (k, refl)
-function_this _ = inl refl
+declared_alone xs = names_alone (of_declarations xs)
 
 -- ---- the items that stay, one after another
 
@@ -122,34 +98,129 @@ until_main_kept truths sections (x ∷ xs) h =
       ])
     ] refl h
 
-pub declared_kept : (truths : List Bool) (before : List Item) → MainStays truths [] before → declared_by (kept truths before) ≡ declared_at truths before
-declared_kept truths before h = ap names_of (until_main_kept truths [] before h)
+-- ---- where directives stand
 
--- ---- distinct numbers
+outside_before : (declaring : Bool) (opened : Option ℕ) (xs ys : List Item) → StandOutside declaring opened (xs ++ ys) → StandOutside declaring opened xs
+outside_before declaring opened [] ys h = tt
+outside_before declaring opened (x ∷ xs) ys h = (h.0, outside_before (is_declaring x.sign) (opened_by declaring opened x.sign) xs ys h.1)
 
-abbrev pub AreDifferent : List ℕ → Type 0
-AreDifferent [] = Unit {0}
-AreDifferent (z ∷ zs) = (is_among z zs ≡ false) × AreDifferent zs
+pub stand_before : (xs ys : List Item) → StandOutside false None (xs ++ ys) → StandOutside false None xs
+stand_before xs ys h = outside_before false None xs ys h
 
-not_equal : (z x : ℕ) → nat_eq x z ≡ false → nat_eq z x ≡ false
-not_equal z x e = grind (arith, nat_tests)
+no_declaring : AreOthers is_declaring
+no_declaring (signs.GroupIf n) e = refl
+no_declaring (signs.GroupElif n) e = refl
+no_declaring signs.GroupElse e = refl
+no_declaring signs.GroupEnd e = refl
+no_declaring _ e = absurd cc
 
-different_last : (zs : List ℕ) (x : ℕ) → AreDifferent zs → is_among x zs ≡ false → AreDifferent (zs ++ x ∷ [])
-different_last [] x d h = (refl, tt)
-different_last (z ∷ zs) x d h =
-    let n = neither (nat_eq x z) (is_among x zs) h in
-    (list_any-append (nat_eq z) zs (x ∷ []) ∙ ap (λ (b : Bool). b || (nat_eq z x || false)) d.0 ∙ ap (λ (b : Bool). b || false) (not_equal z x n.0), different_last zs x d.1 n.1)
+-- behind no sign that declares
+pub no_declarer : (declaring : Bool) (opened : Option ℕ) (items : List Item) → StandOutside declaring opened items → KnowNothing (by_last is_declaring) false declaring items
+no_declarer declaring opened [] h = tt
+no_declarer declaring opened (x ∷ xs) h = (λ g. outside_is x.sign g h.0, no_declarer (is_declaring x.sign) (opened_by declaring opened x.sign) xs h.1)
+  where
+    outside_is : (s : Sign) → is_group s ≡ true → IsOutside (is_group s) declaring opened → declaring ≡ false
+    outside_is s g o = (subst (λ (t : Bool). IsOutside t declaring opened) g o).0
 
--- ---- a name without a fault
+-- before an item that stays a name is declared where it is in all items
+pub declares_kept : (truths : List Bool) (before : List Item) → StandOutside false None before → is_kept truths before ≡ true → declares_behind (kept truths before) ≡ declares_behind before
+declares_kept truths before h k = stands_kept is_declaring no_declaring truths before (no_declarer false None before h) k
+
+-- whether a name is declared next, and the name in whose declarator it stands
+abbrev next_in : Bool × Option ℕ → Item → Bool × Option ℕ
+next_in o x = (is_declaring x.sign, opened_by o.0 o.1 x.sign)
+
+none_opened : (s : Sign) → is_group s ≡ true → ◌≡◌ {A = Bool × Option ℕ} (is_declaring s, opened_by false None s) (false, None)
+none_opened (signs.GroupIf n) e = refl
+none_opened (signs.GroupElif n) e = refl
+none_opened signs.GroupElse e = refl
+none_opened signs.GroupEnd e = refl
+none_opened _ e = absurd cc
+
+no_declarator : (declaring : Bool) (opened : Option ℕ) (items : List Item) → StandOutside declaring opened items → KnowNothing next_in (false, None) (declaring, opened) items
+no_declarator declaring opened [] h = tt
+no_declarator declaring opened (x ∷ xs) h = (λ g. both_out (subst (λ (t : Bool). IsOutside t declaring opened) g h.0), no_declarator (is_declaring x.sign) (opened_by declaring opened x.sign) xs h.1)
+  where
+    both_out : (declaring ≡ false) × (opened ≡ None) → ◌≡◌ {A = Bool × Option ℕ} (declaring, opened) (false, None)
+    both_out o = ap (λ (b : Bool). (b, opened)) o.0 ∙ ap (λ (n : Option ℕ). (false, n)) o.1
+
+in_declarator : (o : Bool × Option ℕ) (items : List Item) → open_from o.0 o.1 items ≡ (known_behind next_in o items).1
+in_declarator o [] = refl
+in_declarator o (x ∷ xs) = in_declarator (next_in o x) xs
+
+-- and it stands in the same declarator
+pub open_kept : (truths : List Bool) (before : List Item) → StandOutside false None before → is_kept truths before ≡ true → open_behind (kept truths before) ≡ open_behind before
+open_kept truths before h k =
+    in_declarator (false, None) (kept truths before)
+    ∙ ap (λ (o : Bool × Option ℕ). o.1) (known_same next_in (false, None) (λ x g. none_opened x.sign g) truths before (no_declarator false None before h) k)
+    ∙ sym (in_declarator (false, None) before)
+
+-- a name that stays is used where it is used
+pub used_kept : (truths : List Bool) (before : List Item) → StandOutside false None before → MainStays truths [] before → is_kept truths before ≡ true → is_used_behind (kept truths before) ≡ is_used_behind before
+used_kept truths before h m k =
+    ap (λ (b : Bool). b && not (declares_behind (kept truths before))) (has_main_kept truths [] before m) ∙ ap (λ (b : Bool). has_main before && not b) (declares_kept truths before h k)
+
+-- ---- the names that what stays declares
+
+-- the first `main` stays, unless it stands before these items
+abbrev MainIs : Bool → List Bool → List Section → List Item → Type 0
+MainIs main truths ss items = IsEither main (Unit {0}) (MainStays truths ss items)
+
+main_next : (main : Bool) (truths : List Bool) (ss : List Section) (x : Item) (xs : List Item) → MainIs main truths ss (x ∷ xs) → MainIs (main || is_main x.sign) truths (sections_after truths ss (directive_of x.sign)) xs
+main_next true truths ss x xs h = tt
+main_next false truths ss x xs h =
+    elim (is_main x.sign) as (λ b. IsEither b (all_kept ss ≡ true) (MainStays truths (sections_after truths ss (directive_of x.sign)) xs) → MainIs b truths (sections_after truths ss (directive_of x.sign)) xs) [ true ↦ λ _. tt | false ↦ λ k. k ] h
+
+-- what goes is not the first `main`
+main_gone : (main : Bool) (truths : List Bool) (ss : List Section) (x : Item) (xs : List Item) → MainIs main truths ss (x ∷ xs) → (not (is_group x.sign) && all_kept ss) ≡ false → (main || is_main x.sign) ≡ main
+main_gone true truths ss x xs h g = refl
+main_gone false truths ss x xs h g =
+    elim (is_main x.sign) as (λ b. is_main x.sign ≡ b → IsEither b (all_kept ss ≡ true) (MainStays truths (sections_after truths ss (directive_of x.sign)) xs) → b ≡ false) [
+      | true ↦ λ e k. absurd (both_ways (not (is_group x.sign) && all_kept ss) (both_true (is_group x.sign) (all_kept ss) (main_plain x.sign e) k) g)
+      | false ↦ λ e k. refl
+    ] refl h
+
+name_plain : (b : Bool) (s : Sign) → (b && is_name s) ≡ true → is_group s ≡ false
+name_plain false s e = absurd cc
+name_plain true (signs.Name n) e = refl
+name_plain true _ e = absurd cc
+
+here_or_gone : (truths : List Bool) (ss : List Section) (main here all : Bool) (x : Item) (xs : List Item) (keep : Bool) → (not (is_group x.sign) && all_kept ss) ≡ keep → (keep ≡ true → here ≡ all) → (keep ≡ false → (main || is_main x.sign) ≡ main)
+    → declarations_from (main || is_main x.sign) (if keep then is_declaring x.sign else here) (kept_from truths (sections_after truths ss (directive_of x.sign)) xs)
+    ≡ kept_from truths (sections_after truths ss (directive_of x.sign)) (declarations_from (main || is_main x.sign) (is_declaring x.sign) xs)
+    → declarations_from main here (if keep then x ∷ kept_from truths (sections_after truths ss (directive_of x.sign)) xs else kept_from truths (sections_after truths ss (directive_of x.sign)) xs) ≡ kept_from truths ss (declarations_from main all (x ∷ xs))
+here_or_gone truths ss main here all x xs true k same one rest =
+    let more = declarations_from (main || is_main x.sign) (is_declaring x.sign) (kept_from truths (sections_after truths ss (directive_of x.sign)) xs) in
+    ap (λ (b : Bool). if main && not b && is_name x.sign then more else x ∷ more) (same refl)
+    ∙ ap (λ (ys : List Item). if main && not all && is_name x.sign then ys else x ∷ ys) rest
+    ∙ by_out truths ss x (declarations_from (main || is_main x.sign) (is_declaring x.sign) xs) (main && not all && is_name x.sign) true (name_plain (main && not all) x.sign) k
+here_or_gone truths ss main here all x xs false k same one rest =
+    let us = sections_after truths ss (directive_of x.sign) in
+    let more = declarations_from (main || is_main x.sign) (is_declaring x.sign) xs in
+    ap (λ (b : Bool). declarations_from b here (kept_from truths us xs)) (sym (one refl)) ∙ rest
+    ∙ sym (either (main && not all && is_name x.sign) (kept_from truths us more))
+    ∙ by_out truths ss x more (main && not all && is_name x.sign) false (name_plain (main && not all) x.sign) k
+
+from_kept : (truths : List Bool) (ss : List Section) (main here all : Bool) (items : List Item) → MainIs main truths ss items → KnowNothing (by_last is_declaring) false all items → AreLike false ss here all
+    → declarations_from main here (kept_from truths ss items) ≡ kept_from truths ss (declarations_from main all items)
+from_kept truths ss main here all [] m h l = refl
+from_kept truths ss main here all (x ∷ xs) m h l =
+    here_or_gone truths ss main here all x xs (not (is_group x.sign) && all_kept ss) refl (λ k. l.kept (right (not (is_group x.sign)) (all_kept ss) k)) (main_gone main truths ss x xs m)
+    (from_kept truths (sections_after truths ss (directive_of x.sign)) (main || is_main x.sign) (if (not (is_group x.sign) && all_kept ss) then is_declaring x.sign else here) (is_declaring x.sign) xs (main_next main truths ss x xs m) h.1
+    (like_next (by_last is_declaring) false (λ y g. no_declaring y.sign g) truths ss x here all l h.0))
+
+-- the declarations of what stays are what stays of the declarations
+pub declarations_kept : (truths : List Bool) (items : List Item) → KnowNothing (by_last is_declaring) false false items → MainStays truths [] items → of_declarations (kept truths items) ≡ kept truths (of_declarations items)
+declarations_kept truths items h m = from_kept truths [] false false false items m h (record { kept = λ _. refl; gone = λ _. refl })
+
+pub declared_kept : (truths : List Bool) (before : List Item) → StandOutside false None before → MainStays truths [] before → declared_by (kept truths before) ≡ declared_at truths before
+declared_kept truths before h m = ap names_of (declarations_kept truths before (no_declarer false None before h) m)
+
+-- ---- where no fault is found
 
 first_none : (code : Option (List ℤ) → FileCode) (other : Option FileCode) (found : Option Config) → None ≡ code_with code other found → found ≡ None
 first_none code other None e = refl
 first_none code other (Some config) e = absurd cc
-
--- a use of a name that is no value's, without a fault
-abbrev IsOther : NameContext → List Item → ℕ → Type 0
-IsOther context before n = IsEither (is_feature context n) (◌≡◌ {A = Option FileCode} None (Some FeatureInCode))
-    (IsEither (is_among n (declared_by before)) (IsWithFirst context.model (is_missed context before n) Undeclared None None) (◌≡◌ {A = Option FileCode} None (Some (Undeclared None))))
 
 -- where a fault is not found, it is at no valid configuration
 pub nowhere : (model : Model) (holds : List ℤ → Bool) (code : Option (List ℤ) → FileCode) (other : Option FileCode) (values : List ℤ) → IsWithFirst model holds code other None → IsValid (plain model) values → holds values ≡ false
@@ -157,33 +228,9 @@ nowhere model holds code other values w v =
     let none : Finds model holds None = subst (λ (o : Option Config). Finds model holds o) (first_none code other w.found w.fault_is) w.finds in
     none values v
 
-not_missed : (context : NameContext) (before : List Item) (n : ℕ) (values : List ℤ) → IsOther context before n → IsValid (plain context.model) values → is_missed context before n values ≡ false
-not_missed context before n values h v =
-    elim (is_feature context n) as (λ a. IsEither a (◌≡◌ {A = Option FileCode} None (Some FeatureInCode)) (IsEither (is_among n (declared_by before)) (IsWithFirst context.model (is_missed context before n) Undeclared None None) (◌≡◌ {A = Option FileCode} None (Some (Undeclared None)))) → is_missed context before n values ≡ false) [
-      | true ↦ λ e. absurd cc
-      | false ↦ λ k. (elim (is_among n (declared_by before)) as (λ b. IsEither b (IsWithFirst context.model (is_missed context before n) Undeclared None None) (◌≡◌ {A = Option FileCode} None (Some (Undeclared None))) → is_missed context before n values ≡ false) [
-        | true ↦ λ w. nowhere context.model (is_missed context before n) Undeclared None values w v
-        | false ↦ λ e. absurd cc
-      ] k)
-    ] h
-
 pub not_false : (b : Bool) → not b ≡ false → b ≡ true
 not_false true e = refl
 not_false false e = absurd cc
-
--- a name that stays is declared by what stays before it
-declared_before : (context : NameContext) (before : List Item) (n : ℕ) (values : List ℤ) → IsOther context before n → IsValid (plain context.model) values → is_kept (truths_at context values) before ≡ true
-    → is_among n (declared_at (truths_at context values) before) ≡ true
-declared_before context before n values h v k =
-    not_false (is_among n (declared_at (truths_at context values) before))
-    (sym (ap (λ (b : Bool). b && not (is_among n (declared_at (truths_at context values) before))) k) ∙ not_missed context before n values h v)
-
--- and a declaration that stays is the first one
-not_declared_before : (context : NameContext) (before : List Item) (n : ℕ) (values : List ℤ) → IsDeclarationFault context before n None → IsValid (plain context.model) values → is_kept (truths_at context values) before ≡ true
-    → is_among n (declared_at (truths_at context values) before) ≡ false
-not_declared_before context before n values h v k =
-    sym (ap (λ (b : Bool). b && is_among n (declared_at (truths_at context values) before)) k)
-    ∙ nowhere context.model (is_met_again context before n) Twice (new_name_fault context before n) values h v
 
 -- ---- one item more
 
@@ -193,18 +240,9 @@ pub record AreOutside (context : NameContext) (o : alone.Outside) : Type 0 where
   pub constants : o.constants ≡ 0
   pub values : (n : ℕ) → alone.has_value o n ≡ is_value context n
 
--- the items before that stay declare each name once
-abbrev pub AreJudged : List Bool → List Item → Type 0
-AreJudged truths before = AreDifferent (declared_by (kept truths before))
-
 -- an item behind others stays
 abbrev pub stays_next : List Bool → List Item → Item → Bool
 stays_next truths before x = not (is_group x.sign) && is_kept truths before
-
--- the next item, if it stays, has no fault
-pub record IsJudgedNext (o : alone.Outside) (truths : List Bool) (before : List Item) (x : Item) : Type 0 where
-  pub judged : AreJudged truths (before ++ x ∷ [])
-  pub fine : stays_next truths before x ≡ true → alone.name_fault o (kept truths before) x.sign ≡ None
 
 pub kept_next : (truths : List Bool) (before : List Item) (x : Item) (b : Bool) → stays_next truths before x ≡ b → kept truths (before ++ x ∷ []) ≡ kept truths before ++ cond b (x ∷ []) []
 kept_next truths before x b e = kept_more truths [] before (x ∷ []) ∙ ap (λ (t : Bool). kept truths before ++ cond t (x ∷ []) []) e
@@ -212,75 +250,6 @@ kept_next truths before x b e = kept_more truths [] before (x ∷ []) ∙ ap (λ
 pub and_right : (a b : Bool) → (a && b) ≡ true → b ≡ true
 and_right true b h = h
 and_right false b h = absurd cc
-
--- behind an item that declares nothing the same names are declared
-same_declared : (truths : List Bool) (before : List Item) (x : Item) (b : Bool) → declared_by (kept truths before ++ x ∷ []) ≡ declared_by (kept truths before) → stays_next truths before x ≡ b
-    → declared_by (kept truths (before ++ x ∷ [])) ≡ declared_by (kept truths before)
-same_declared truths before x true h e = ap declared_by (kept_next truths before x true e) ∙ h
-same_declared truths before x false h e = ap declared_by (kept_next truths before x false e ∙ append-nil (kept truths before))
-
--- a function that stays has no fault
-abbrev pub AreCallsFine : alone.Outside → List Bool → List Item → Item → Type 0
-AreCallsFine o truths before x = (k : ℕ) → x.sign ≡ signs.Function k → stays_next truths before x ≡ true → alone.name_fault o (kept truths before) x.sign ≡ None
-
-silent_next : (o : alone.Outside) (truths : List Bool) (before : List Item) (x : Item) → name_of x.sign ≡ [] → AreCallsFine o truths before x → AreJudged truths before → IsJudgedNext o truths before x
-silent_next o truths before x e c j = record {
-  judged = subst AreDifferent (sym (same_declared truths before x (stays_next truths before x) (silent_same (kept truths before) x (silent_one x e)) refl)) j;
-  fine = λ s. elim (function_this x.sign) [
-    | inl f ↦ silent_fault o (kept truths before) x.sign e f
-    | inr f ↦ c f.0 f.1 s
-  ];
-}
-
--- a name that is used
-use_fine : (o : alone.Outside) (truths : List Bool) (before : List Item) (n : ℕ) → MainStays truths [] before → has_main before ≡ true → (alone.has_value o n || is_among n (declared_at truths before)) ≡ true → alone.name_fault o (kept truths before) (signs.Name n) ≡ None
-use_fine o truths before n m h k =
-    ap (λ (b : Bool). if b then alone.use_fault o (alone.declared_by (kept truths before)) n else alone.declaration_fault o (alone.declared_by (kept truths before)) n) (has_same (kept truths before) ∙ has_main_kept truths [] before m ∙ h)
-    ∙ ap (λ (ns : List ℕ). alone.use_fault o ns n) (declared_alone (kept truths before) ∙ declared_kept truths before m)
-    ∙ ap (λ (b : Bool). if b then None else Some (Undeclared None)) k
-
--- it has a value from outside, or a declaration that stays
-known_use : (context : NameContext) (o : alone.Outside) (values : List ℤ) (before : List Item) (n : ℕ) → AreOutside context o → IsValid (plain context.model) values → IsUseFault context before n None → is_kept (truths_at context values) before ≡ true
-    → (alone.has_value o n || is_among n (declared_at (truths_at context values) before)) ≡ true
-known_use context o values before n a v u k =
-    ap (λ (b : Bool). b || is_among n (declared_at (truths_at context values) before)) (a.values n)
-    ∙ elim (is_value context n) as (λ b. IsEither b (◌≡◌ {A = Option FileCode} None (value_fault context (values_of context before) (length (constants_of before)) n)) (IsOther context before n) → (b || is_among n (declared_at (truths_at context values) before)) ≡ true) [
-      | true ↦ λ _. refl
-      | false ↦ λ other. declared_before context before n values other v k
-    ] u
-
-use_next : (context : NameContext) (o : alone.Outside) (values : List ℤ) (before : List Item) (x : Item) (n : ℕ) → AreOutside context o → x.sign ≡ signs.Name n → IsValid (plain context.model) values → MainStays (truths_at context values) [] before → has_main before ≡ true
-    → IsUseFault context before n None → AreJudged (truths_at context values) before → IsJudgedNext o (truths_at context values) before x
-use_next context o values before x n a e v m h u j =
-    let truths = truths_at context values in
-    let main : has_main (kept truths before) ≡ true = has_main_kept truths [] before m ∙ h in
-    record {
-      judged = subst AreDifferent (sym (same_declared truths before x (stays_next truths before x) (declared_same (kept truths before) (x ∷ []) main) refl)) j;
-      fine = λ k. ap (alone.name_fault o (kept truths before)) e ∙ use_fine o truths before n m h (known_use context o values before n a v u (and_right (not (is_group x.sign)) (is_kept truths before) k));
-    }
-
--- a name that is declared
-declaration_fine : (o : alone.Outside) (truths : List Bool) (before : List Item) (n : ℕ) → MainStays truths [] before → has_main before ≡ false → is_among n (declared_by (kept truths before)) ≡ false → alone.has_value o n ≡ false → alone.limit_fault o n ≡ None
-    → alone.name_fault o (kept truths before) (signs.Name n) ≡ None
-declaration_fine o truths before n m h k none room =
-    ap (λ (b : Bool). if b then alone.use_fault o (alone.declared_by (kept truths before)) n else alone.declaration_fault o (alone.declared_by (kept truths before)) n) (has_same (kept truths before) ∙ has_main_kept truths [] before m ∙ h)
-    ∙ ap (λ (ns : List ℕ). alone.declaration_fault o ns n) (declared_alone (kept truths before))
-    ∙ ap (λ (b : Bool). if b then Some (Twice None) else (if alone.has_value o n then Some FeatureInCode else alone.limit_fault o n)) k
-    ∙ ap (λ (b : Bool). if b then Some FeatureInCode else alone.limit_fault o n) none ∙ room
-
-none_below : (n : ℕ) → nat_lt n 0 ≡ false
-none_below n = grind (arith, nat_tests)
-
-and_none : (a b : Bool) → b ≡ false → (a && b) ≡ false
-and_none true b e = e
-and_none false b e = refl
-
--- no name is counted
-no_limit : (variables constants n : ℕ) (values : List ℕ) → variables ≡ 0 → constants ≡ 0 → alone.limit_fault (record { variables = variables; constants = constants; values = values }) n ≡ None
-no_limit variables constants n values v c =
-    let none : variables + constants ≡ 0 = omega arith in
-    ap (λ (b : Bool). if b then Some TooManyVariables else (if nat_eq n (variables + 16) && nat_lt n (variables + constants) then Some TooManyConstants else None)) (and_none (nat_eq n 16) (nat_lt n variables) (ap (nat_lt n) v ∙ none_below n))
-    ∙ ap (λ (b : Bool). if b then Some TooManyConstants else None) (and_none (nat_eq n (variables + 16)) (nat_lt n (variables + constants)) (ap (nat_lt n) none ∙ none_below n))
 
 -- a value is a feature
 no_feature_in : (fs : List Feature) (name : List ℕ) → list_any (λ f. bytes_eq f.name name) fs ≡ false → feature_in fs name ≡ None
@@ -295,53 +264,3 @@ no_named model (Some name) h = no_feature_in model.features name h
 
 pub no_value : (context : NameContext) (n : ℕ) → is_feature context n ≡ false → is_value context n ≡ false
 no_value context n h = ap is_integer (no_named context.model (slice_get context.names n) h)
-
--- what is known where a declaration stays
-record IsNew (truths : List Bool) (before : List Item) (x : Item) (n : ℕ) : Type 0 where
-  new : is_among n (declared_by (kept truths before)) ≡ false
-  different : AreDifferent (declared_by (kept truths (before ++ x ∷ [])))
-
-is_new : (context : NameContext) (values : List ℤ) (before : List Item) (x : Item) (n : ℕ) → x.sign ≡ signs.Name n → IsValid (plain context.model) values → MainStays (truths_at context values) [] before → has_main before ≡ false
-    → IsDeclarationFault context before n None → AreDifferent (declared_by (kept (truths_at context values) before)) → stays_next (truths_at context values) before x ≡ true → IsNew (truths_at context values) before x n
-is_new context values before x n e v m h u d k =
-    let truths = truths_at context values in
-    let main : has_main (kept truths before) ≡ false = has_main_kept truths [] before m ∙ h in
-    let one : declared_by (x ∷ []) ≡ n ∷ [] = ap (λ (s : Sign). declared_by (record { place = x.place; sign = s } ∷ [])) e in
-    let are : declared_by (kept truths (before ++ x ∷ [])) ≡ declared_by (kept truths before) ++ n ∷ [] =
-    ap declared_by (kept_next truths before x true k) ∙ declared_more (kept truths before) (x ∷ []) main ∙ ap (λ (ns : List ℕ). declared_by (kept truths before) ++ ns) one in
-    let new : is_among n (declared_by (kept truths before)) ≡ false =
-    ap (is_among n) (declared_kept truths before m) ∙ not_declared_before context before n values u v (and_right (not (is_group x.sign)) (is_kept truths before) k) in
-    record { new = new; different = subst AreDifferent (sym are) (different_last (declared_by (kept truths before)) n d new) }
-
--- no feature is declared
-no_feature_declared : (context : NameContext) (before : List Item) (n : ℕ) → IsDeclarationFault context before n None → is_feature context n ≡ false
-no_feature_declared context before n u =
-    no_feature (is_feature context n) (is_among n (declared_by before)) (full_fault (is_constant (kind_after kinds.Variable before)) (length (constants_of before)) (length (variables_of before))) (no_other Twice (new_name_fault context before n) u.found u.fault_is)
-
-declaration_next : (context : NameContext) (o : alone.Outside) (values : List ℤ) (before : List Item) (x : Item) (n : ℕ) → AreOutside context o → x.sign ≡ signs.Name n → IsValid (plain context.model) values → MainStays (truths_at context values) [] before → has_main before ≡ false
-    → IsDeclarationFault context before n None → AreJudged (truths_at context values) before → IsJudgedNext o (truths_at context values) before x
-declaration_next context o values before x n a e v m h u j =
-    let truths = truths_at context values in
-    let none : alone.has_value o n ≡ false = a.values n ∙ no_value context n (no_feature_declared context before n u) in
-    elim (stays_next truths before x) as (λ b. stays_next truths before x ≡ b → IsJudgedNext o truths before x) [
-      | true ↦ λ k. (let i = is_new context values before x n e v m h u j k in
-          record {
-            judged = i.different;
-            fine = λ _. ap (alone.name_fault o (kept truths before)) e ∙ declaration_fine o truths before n m h i.new none (no_limit o.variables o.constants n o.values a.variables a.constants);
-          })
-      | false ↦ λ k. record {
-        judged = subst AreDifferent (sym (ap declared_by (kept_next truths before x false k ∙ append-nil (kept truths before)))) j;
-        fine = λ s. absurd (let bad : true ≡ false = sym s ∙ k in cc);
-      }
-    ] refl
-
-pub next : (context : NameContext) (o : alone.Outside) (values : List ℤ) (before : List Item) (x : Item) → AreOutside context o → IsValid (plain context.model) values → MainStays (truths_at context values) [] before
-    → IsNameFault context before x.sign None → AreCallsFine o (truths_at context values) before x → AreJudged (truths_at context values) before → IsJudgedNext o (truths_at context values) before x
-next context o values before x a v m h c j =
-    elim (names_this x.sign) [
-      | inl e ↦ silent_next o (truths_at context values) before x e c j
-      | inr e ↦ elim (has_main before) as (λ b. has_main before ≡ b → IsEither b (IsUseFault context before e.0 None) (IsDeclarationFault context before e.0 None) → IsJudgedNext o (truths_at context values) before x) [
-        | true ↦ λ k u. use_next context o values before x e.0 a e.1 v m k u j
-        | false ↦ λ k u. declaration_next context o values before x e.0 a e.1 v m k u j
-      ] refl (subst (λ (s : Sign). IsNameFault context before s None) e.1 h)
-    ]

@@ -1,6 +1,6 @@
 -- What the order of names is read from, item by item and number by number.
-use Rattle.std.proofs.Common.{◌≡◌, ℕ, zero, suc, ◌+◌, ◌<◌, Bool, false, List, [], ◌∷◌, ◌++◌, length, take, drop, get_or, Option, refl, sym, ap, subst, ◌∙◌, drop-cons, add-one, arith}
-use Rattle.std.specs.Prelude.{if◌then◌else◌}
+use Rattle.std.proofs.Common.{◌≡◌, ℕ, zero, suc, ◌+◌, ◌<◌, Bool, List, [], ◌∷◌, ◌++◌, length, take, drop, get_or, Option, Some, None, refl, sym, ap, subst, ◌∙◌, drop-cons, add-one, arith}
+use Rattle.std.specs.Prelude.{◌||◌, if◌then◌else◌}
 use Rattle.std.specs.List.{filter, range_with_len}
 use Rattle.std.proofs.lemmas.List.{length-map, take_more}
 use Rattle.std.proofs.lemmas.List.Elements.{filter-append}
@@ -8,12 +8,16 @@ use Rattle.c_grammar.specs.declared.constants.NameKind.{NameKind}
 use Rattle.c_grammar.specs.declared.constants.NameKind.TheVariants as kinds
 use Rattle.c_grammar.specs.declared.constants.Track.{Track}
 use Rattle.c_grammar.specs.declared.items.Item.{Item}
-use Rattle.c_grammar.specs.Constants.{is_constant, kind_behind, kind_after, IsTrack}
+use Rattle.c_grammar.specs.Changes.{IsTrack}
+use Rattle.c_grammar.specs.Constants.{kind_behind, kind_after, last_from}
 use Rattle.c_grammar.specs.Facts.{AreFit}
-use Rattle.c_grammar.specs.Kinds.{is_main, name_as, kinds_from, is_declared_constant}
-use Rattle.c_parser.specs.Names.{names_at}
-use Rattle.c_parser.specs.Order.{is_constant_by}
+use Rattle.c_grammar.specs.Functions.{has_sign}
+use Rattle.c_grammar.specs.Kinds.{kinds_from, is_declared_constant}
+use Rattle.c_grammar.specs.Locals.{is_main, is_declaring, declares_behind}
+use Rattle.c_parser.specs.Names.{has_main, names_at}
+use Rattle.c_parser.specs.Order.{is_constant_by, declared_as}
 use Rattle.c_parser.proofs.Arranging.{at_both}
+use Rattle.family_names.proofs.Declared.{main_on}
 
 -- ---- one item more
 
@@ -21,42 +25,53 @@ behind_more : (kind : NameKind) (before : List Item) (x : Item) → kind_after k
 behind_more kind [] x = refl
 behind_more kind (y ∷ ys) x = behind_more (kind_behind kind y.sign) ys x
 
+last_more : (last : Option Item) (before : List Item) (x : Item) → last_from last (before ++ x ∷ []) ≡ Some x
+last_more last [] x = refl
+last_more last (y ∷ ys) x = last_more (Some y) ys x
+
 left_behind : (items : List Item) (i : ℕ) (d : Item) → i < length items → drop i items ≡ get_or items i d ∷ drop (i + 1) items
 left_behind items i d lt = rw add-one (drop-cons items i d lt)
 
--- the kind of a name is kept, and those of later ones are still to come
-kept_on : (items : List Item) (i : ℕ) (d : Item) (old new : List (Option Bool)) (constant : Bool) → i < length items → is_main (get_or items i d).sign ≡ false → constant ≡ is_constant (kind_after kinds.Variable (take i items))
-    → ((later : List (ℕ × Bool)) (x : ℕ) → is_constant_by new later x ≡ is_constant_by old (name_as constant (get_or items i d).sign ++ later) x)
-    → ((x : ℕ) → is_constant_by old (kinds_from (kind_after kinds.Variable (take i items)) (drop i items)) x ≡ is_declared_constant items x)
-    → (x : ℕ) → is_constant_by new (kinds_from (kind_after kinds.Variable (take (i + 1) items)) (drop (i + 1) items)) x ≡ is_declared_constant items x
-kept_on items i d old new constant lt no_main kind first so x =
+-- the kinds of the names that these items declare behind others
+abbrev pub kinds_behind : List Item → List Item → List (ℕ × Bool)
+kinds_behind before xs = kinds_from (has_main before) (declares_behind before) (kind_after kinds.Variable before) xs
+
+-- what is known of the kinds behind so many of the items
+pub record IsOn (count : ℕ) (items : List Item) (i : ℕ) (in_main : Bool) (track : Track) (kept : List (Option Bool)) : Type 0 where
+  pub fit : AreFit count (drop i items)
+  pub main : in_main ≡ has_main (take i items)
+  pub track_is : IsTrack (take i items) track
+  pub first : (x : ℕ) → is_constant_by kept (kinds_behind (take i items) (drop i items)) x ≡ is_declared_constant items x
+
+kinds_on : (before xs : List Item) (x : Item) → kinds_behind before (x ∷ xs) ≡ declared_as before x.sign ++ kinds_behind (before ++ x ∷ []) xs
+kinds_on before xs x =
+    let head = declared_as before x.sign in
+    let behind = kind_behind (kind_after kinds.Variable before) x.sign in
+    ap (λ (b : Bool). head ++ kinds_from b (is_declaring x.sign) behind xs) (sym (main_on before x))
+    ∙ ap (λ (o : Option Item). head ++ kinds_from (has_main (before ++ x ∷ [])) (has_sign is_declaring o) behind xs) (sym (last_more None before x))
+    ∙ ap (λ (k : NameKind). head ++ kinds_from (has_main (before ++ x ∷ [])) (declares_behind (before ++ x ∷ [])) k xs) (sym (behind_more kinds.Variable before x))
+
+pub item_on : (count : ℕ) (items : List Item) (i : ℕ) (d : Item) (in_main on_main : Bool) (track : Track) (old new : List (Option Bool)) → i < length items → in_main ≡ has_main (take i items) → on_main ≡ (in_main || is_main (get_or items i d).sign)
+    → ((later : List (ℕ × Bool)) (x : ℕ) → is_constant_by new later x ≡ is_constant_by old (declared_as (take i items) (get_or items i d).sign ++ later) x)
+    → ((x : ℕ) → is_constant_by old (kinds_behind (take i items) (drop i items)) x ≡ is_declared_constant items x)
+    → AreFit count (drop i items) → IsTrack (take i items ++ get_or items i d ∷ []) track → IsOn count items (i + 1) on_main track new
+item_on count items i d in_main on_main track old new lt main on first so fit is =
+    let before = take i items in
     let item = get_or items i d in
     let rest = drop (i + 1) items in
-    let before = kind_after kinds.Variable (take i items) in
-    let behind = kind_behind before item.sign in
-    let next : kind_after kinds.Variable (take (i + 1) items) ≡ behind = ap (kind_after kinds.Variable) (take_more items i d lt) ∙ behind_more kinds.Variable (take i items) item in
-    ap (λ (k : NameKind). is_constant_by new (kinds_from k rest) x) next
-    ∙ first (kinds_from behind rest) x
-    ∙ ap (λ (c : Bool). is_constant_by old (name_as c item.sign ++ kinds_from behind rest) x) kind
-    ∙ sym (ap (λ (b : Bool). is_constant_by old (if b then [] else name_as (is_constant before) item.sign ++ kinds_from behind rest) x) no_main)
-    ∙ sym (ap (λ (xs : List Item). is_constant_by old (kinds_from before xs) x) (left_behind items i d lt))
-    ∙ so x
-
--- what is known behind an item
-pub record IsOn (count : ℕ) (items : List Item) (i : ℕ) (track : Track) (kept : List (Option Bool)) : Type 0 where
-  pub fit : AreFit count (drop i items)
-  pub track_is : IsTrack (take i items) track
-  pub first : (x : ℕ) → is_constant_by kept (kinds_from (kind_after kinds.Variable (take i items)) (drop i items)) x ≡ is_declared_constant items x
-
-pub item_on : (count : ℕ) (items : List Item) (i : ℕ) (d : Item) (track : Track) (old new : List (Option Bool)) (constant : Bool) → i < length items → is_main (get_or items i d).sign ≡ false → constant ≡ is_constant (kind_after kinds.Variable (take i items))
-    → ((later : List (ℕ × Bool)) (x : ℕ) → is_constant_by new later x ≡ is_constant_by old (name_as constant (get_or items i d).sign ++ later) x)
-    → ((x : ℕ) → is_constant_by old (kinds_from (kind_after kinds.Variable (take i items)) (drop i items)) x ≡ is_declared_constant items x)
-    → AreFit count (drop i items) → IsTrack (take i items ++ get_or items i d ∷ []) track → IsOn count items (i + 1) track new
-item_on count items i d track old new constant lt no_main kind first so fit is = record {
-  fit = (subst (AreFit count) (left_behind items i d lt) fit).1;
-  track_is = subst (λ (ys : List Item). IsTrack ys track) (sym (take_more items i d lt)) is;
-  first = kept_on items i d old new constant lt no_main kind first so;
-}
+    let more : take (i + 1) items ≡ take i items ++ get_or items i d ∷ [] = take_more items i d lt in
+    let left : drop i items ≡ get_or items i d ∷ drop (i + 1) items = left_behind items i d lt in
+    record {
+      fit = (subst (AreFit count) left fit).1;
+      main = on ∙ ap (λ (b : Bool). b || is_main item.sign) main ∙ sym (main_on before item) ∙ ap has_main (sym more);
+      track_is = subst (λ (ys : List Item). IsTrack ys track) (sym more) is;
+      first = λ x.
+          ap (λ (ys : List Item). is_constant_by new (kinds_behind ys rest) x) more
+          ∙ first (kinds_behind (take i items ++ get_or items i d ∷ []) rest) x
+          ∙ ap (λ (ds : List (ℕ × Bool)). is_constant_by old ds x) (sym (kinds_on before rest item))
+          ∙ ap (λ (ys : List Item). is_constant_by old (kinds_behind before ys) x) (sym left)
+          ∙ so x;
+    }
 
 -- ---- one number more
 

@@ -32,12 +32,12 @@ use Rattle.c_parser.specs.Signs.{keyword_of}
 use Rattle.c_parser.specs.Functions.{functions_of_bytes}
 use Rattle.c_parser.specs.Items.{Listed, is_function, number_in, with_name, names_with_identifier, names_with_word, names_with, names_from, lexeme_in, items_over, listed, AreNewBehind, AreDistinct}
 use Rattle.c_parser.specs.Judging.{counted}
-use Rattle.c_parser.specs.Names.{declared_by, first_name_fault, limit_fault, targets, names_at, each_once}
+use Rattle.c_parser.specs.Names.{declared_by, first_name_fault, limit_fault, names_at, each_once}
 use Rattle.c_parser.specs.Order.{variables_of, constants_of, arranged}
 use Rattle.c_parser.specs.Reading.{Given, code_of_file, items_of_code, items_of, outside, own, own_names, IsPlainRead, IsRead, IsReadOver, AreDeclaredNames}
 use Rattle.c_parser.specs.Stages.{IsOwn, list, listed_in}
 use Rattle.c_parser.proofs.Arranging.{text_same, arranged_distinct, arranged_among, arranged_length}
-use Rattle.c_parser.proofs.Declarations.{declared_forms}
+use Rattle.c_parser.proofs.LocalDeclarations.{declared_all}
 use Rattle.c_parser.proofs.Declared.{AreTold, names_from_declared}
 use Rattle.c_parser.proofs.Growing.{with_token}
 use Rattle.c_parser.proofs.Lexical.{TokenLaws}
@@ -231,7 +231,7 @@ own_declared laws is_file includes bytes p a =
       forms = spelled.forms;
       declared =
           sym (all_new [] o.first.names o.distinct)
-          ∙ ap (each_once []) (sym o.told ∙ ap (names_at a.accepted.listed.names) (declared_forms spelled.forms) ∙ ap (λ (ns : List (List ℕ)). names_at ns (targets spelled.file.declared)) (sym names));
+          ∙ ap (each_once []) (sym o.told ∙ ap (λ (ns : List (List ℕ)). names_at ns (declared_by a.accepted.listed.items)) (sym names) ∙ ap (names_at p.names) (declared_all spelled.forms));
       are = names ∙ o.names;
     }
 

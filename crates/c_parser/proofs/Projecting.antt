@@ -1,5 +1,6 @@
 -- Preprocessing and then reading is reading and then projecting: the laws of variants.
-use Rattle.std.proofs.Common.{◌≡◌, ℕ, ℤ, ◌≤◌, ◌<◌, nat_eq, Bool, true, false, ◌||◌, cond, List, [], ◌∷◌, ◌++◌, length, map, None, Result, Ok, Err, inl, inr, refl, sym, ap, subst, ◌∙◌}
+use Rattle.std.proofs.Common.{◌≡◌, ℕ, ℤ, ◌≤◌, ◌<◌, nat_eq, Bool, true, false, not, ◌||◌, ◌&&◌, List, [], ◌∷◌, ◌++◌, length, map, None, Result, Ok, Err, inl, inr, refl, sym, ap, subst, ◌∙◌}
+use Rattle.std.specs.Prelude.{if◌then◌else◌}
 use Rattle.std.specs.List.{list_any}
 use Rattle.std.proofs.lemmas.List.{length-map, map-append}
 use Rattle.fam_outer.specs.declared.dialect.Dialect.{Dialect}
@@ -24,7 +25,9 @@ use Rattle.c_grammar.specs.declared.items.Item.{Item}
 use Rattle.c_grammar.specs.declared.items.Sign.{Sign}
 use Rattle.c_grammar.specs.declared.items.Sign.TheVariants as signs
 use Rattle.c_grammar.specs.Facts.{Conditioned, IsFit, AreFit}
+use Rattle.c_grammar.specs.Constants.{is_name}
 use Rattle.c_grammar.specs.Kept.{kept}
+use Rattle.c_grammar.specs.Locals.{is_main, is_declaring, declarations_from, of_declarations}
 use Rattle.c_grammar.specs.Within.{SpellsWithin, KeepsWithin, WithinIsFile}
 use Rattle.c_parser.specs.declared.family.Family.{Family}
 use Rattle.c_parser.specs.FamilyReading.{IsFamilyOf, context_of}
@@ -34,7 +37,7 @@ use Rattle.feature_values.specs.Declarators.{presets, with_presets}
 use Rattle.feature_values.specs.Laws.{ConditionsAreEnough, ValuesAreStarts}
 use Rattle.feature_values.specs.Values.{tests_of, uses_of}
 use Rattle.family_names.specs.Names as names
-use Rattle.c_parser.specs.Names.{is_main, name_of, declared_by, first_name_fault}
+use Rattle.c_parser.specs.Names.{name_of, names_of, declared_by, first_name_fault}
 use Rattle.c_parser.specs.Reading.{items_of, outside, AreAmong}
 use Rattle.c_parser.specs.Variants.{given_at, projection, starting_at, truths_in, names_in, TextsSpellProjections, VariantsAreTexts, FamilyNamesAreFew, VariantsDeclareAmong, VariantsAreRead, FamiliesHaveTexts}
 use Rattle.c_parser.proofs.FamilyAnswers.{NamesOccur}
@@ -44,6 +47,7 @@ use Rattle.c_parser.proofs.AmongNumbers.{is_same}
 use Rattle.c_parser.proofs.FewNames.{few_names}
 use Rattle.c_parser.proofs.KeptItems.{fit_kept}
 use Rattle.c_grammar.proofs.Apart.{directives_apart}
+use Rattle.c_grammar.proofs.Outside.{directives_outside}
 use Rattle.c_parser.proofs.KeptFaults.{kept_fine}
 use Rattle.c_parser.proofs.KeptNames.{AreOutside}
 use Rattle.c_parser.proofs.MainItems.{main_stays}
@@ -140,12 +144,21 @@ name_below count (signs.Name n) x ns f go h = elim (nat_eq x n) as (λ b. nat_eq
 ] refl h
 name_below count _ x ns f go h = go h
 
+names_below : (count : ℕ) (xs : List Item) (x : ℕ) → AreFit count xs → list_any (nat_eq x) (names_of xs) ≡ true → x < count
+names_below count [] x f h = absurd cc
+names_below count (y ∷ ys) x f h = name_below count y.sign x (names_of ys) f.0 (names_below count ys x f.1) h
+
+declarations_fit : (count : ℕ) (main declaring : Bool) (xs : List Item) → AreFit count xs → AreFit count (declarations_from main declaring xs)
+declarations_fit count main declaring [] f = tt
+declarations_fit count main declaring (y ∷ ys) f =
+    let rest = declarations_fit count (main || is_main y.sign) (is_declaring y.sign) ys f.1 in
+    elim (main && not declaring && is_name y.sign) as (λ b. AreFit count (if b then declarations_from (main || is_main y.sign) (is_declaring y.sign) ys else y ∷ declarations_from (main || is_main y.sign) (is_declaring y.sign) ys)) [
+      | true ↦ rest
+      | false ↦ (f.0, rest)
+    ]
+
 declared_below : (count : ℕ) (xs : List Item) (x : ℕ) → AreFit count xs → list_any (nat_eq x) (declared_by xs) ≡ true → x < count
-declared_below count [] x f h = absurd cc
-declared_below count (y ∷ ys) x f h = elim (is_main y.sign) as (λ b. list_any (nat_eq x) (cond b [] (name_of y.sign ++ declared_by ys)) ≡ true → x < count) [
-  | true ↦ λ k. absurd cc
-  | false ↦ λ k. name_below count y.sign x (declared_by ys) f.0 (declared_below count ys x f.1) k
-] h
+declared_below count xs x f h = names_below count (of_declarations xs) x (declarations_fit count false false xs f) h
 
 abbrev listed_ok : Listed → Result Listed (FileCode × Place)
 listed_ok l = Ok l
@@ -212,7 +225,7 @@ read occur laws programs are_plain dialect model bytes text f values o v q inclu
     let context = context_of model o.known.atoms o.known.formulas l.names o.known.functions in
     let file = programs.is_file l.names l.items o.spelled o.accepted.spelled in
     let fine : first_name_fault (outside (given_at model (functions_of_bytes bytes) f values)) (kept (names.truths_at (context_of model o.known.atoms o.known.formulas o.accepted.listed.names o.known.functions) values) o.accepted.listed.items) ≡ None =
-    kept_fine context (outside (given_at model (functions_of_bytes bytes) f values)) l.items values (outside_are occur dialect model bytes f values o) (directives_apart l.items file.file file.forms) o.accepted.names v
+    kept_fine context (outside (given_at model (functions_of_bytes bytes) f values)) l.items values (outside_are occur dialect model bytes f values o) (directives_apart l.items file.file file.forms) (directives_outside l.items file.file file.forms) o.accepted.names v
     (main_stays (names.truths_at context values) file.forms) in
     record {
       spelled = projected_program truths o.spelled;

@@ -5,7 +5,7 @@ use Rattle.fam_outer.specs.declared.faults.FileCode.{FileCode}
 use Rattle.c_grammar.specs.declared.items.Item.{Item}
 use Rattle.c_grammar.specs.declared.items.Sign.{Sign}
 use Rattle.c_grammar.specs.declared.items.Sign.TheVariants as signs
-use Rattle.c_grammar.specs.Constants.{IsTrack}
+use Rattle.c_grammar.specs.Changes.{IsTrack}
 use Rattle.c_grammar.specs.Grammar.{at}
 use Rattle.c_parser.specs.declared.constants.Constants.{Constants}
 use Rattle.c_parser.specs.declared.prototypes.Prototypes.{Prototypes}

@@ -1,5 +1,6 @@
 -- The names that the items of a file without groups declare, and the first fault of a name (ISO/IEC 9899:2011, 6.5.1, 6.5.2.2 and 6.7).
--- Before `main` each name is that of a declaration, and behind it each name is used; so it is with functions, which are called there.
+-- Before `main` each name is that of a declaration, and in it one behind a word of a type, `const` or a comma; the others are used. The scope
+-- of a name that `main` declares begins behind its declarator. Functions are declared before `main`, and called in it.
 use Rattle.std.specs.Prelude.{ℕ, ◌+◌, nat_eq, nat_lt, Bool, true, false, not, ◌&&◌, ◌||◌, List, [], ◌∷◌, ◌++◌, map, get_or, Option, Some, None, option_map, if◌then◌else◌}
 use Rattle.std.specs.List.{list_any}
 use Rattle.fam_outer.specs.declared.faults.Place.{Place}
@@ -8,31 +9,20 @@ use Rattle.fam_outer.specs.declared.faults.FileCode.TheVariants.{Undeclared, Twi
 use Rattle.c_grammar.specs.declared.items.Item.{Item}
 use Rattle.c_grammar.specs.declared.items.Sign.{Sign}
 use Rattle.c_grammar.specs.declared.items.Sign.TheVariants as signs
-use Rattle.c_grammar.specs.Constants.{of_constants, changed_at}
+use Rattle.c_grammar.specs.Changes.{changed_at}
+use Rattle.c_grammar.specs.Constants.{of_constants}
 use Rattle.c_grammar.specs.Functions.{is_void, is_equals, function_of, stands_behind, of_functions}
+pub use Rattle.c_grammar.specs.Locals.{is_main, name_of, names_of, declared_by}
+use Rattle.c_grammar.specs.Locals.{declares_behind, is_in_own}
 use Rattle.cpp_lines.specs.Faults.{or_later}
 use Rattle.c_tree.specs.declared.lists.Declared.{Declared}
 use Rattle.c_parser.specs.Items.{with_name}
-
-abbrev pub is_main : Sign → Bool
-is_main signs.Main = true
-is_main _ = false
 
 -- `main` stands among the items
 abbrev pub has_main : List Item → Bool
 has_main items = list_any (λ x. is_main x.sign) items
 
--- the number of a name
-abbrev pub name_of : Sign → List ℕ
-name_of (signs.Name x) = x ∷ []
-name_of _ = []
-
--- the names that the items declare, in their order
-abbrev pub declared_by : List Item → List ℕ
-declared_by [] = []
-declared_by (x ∷ xs) = if is_main x.sign then [] else name_of x.sign ++ declared_by xs
-
--- the names that they declare as constants
+-- the names that the items declare as constants
 abbrev pub constants_by : List Item → List ℕ
 constants_by items = declared_by (of_constants items)
 
@@ -84,9 +74,9 @@ declaration_fault o earlier x =
     if list_any (nat_eq x) earlier then Some (Twice None)
     else (if has_value o x then Some FeatureInCode else limit_fault o x)
 
--- a name is used that is not declared and has no value from outside
-abbrev pub use_fault : Outside → List ℕ → ℕ → Option FileCode
-use_fault o declared x = if has_value o x || list_any (nat_eq x) declared then None else Some (Undeclared None)
+-- a name is used that is not declared, or in its own declarator, and has no value from outside
+abbrev pub use_fault : Outside → Bool → List ℕ → ℕ → Option FileCode
+use_fault o own declared x = if has_value o x || (not own && list_any (nat_eq x) declared) then None else Some (Undeclared None)
 
 -- a function is declared where these are declared otherwise (6.7p4); alike it may be declared again
 abbrev pub unlike_fault : List ℕ → ℕ → Option FileCode
@@ -103,9 +93,13 @@ uncallable_fault callable k = if list_any (nat_eq k) callable then None else Som
 abbrev pub call_fault : List Item → ℕ → Option FileCode
 call_fault before k = uncallable_fault (callable_by (stands_behind is_equals before) before) k
 
+-- a name behind these items is used: it stands in `main`, and not where it is declared
+abbrev pub is_used_behind : List Item → Bool
+is_used_behind before = has_main before && not (declares_behind before)
+
 -- the fault of an item behind these
 abbrev pub name_fault : Outside → List Item → Sign → Option FileCode
-name_fault o before (signs.Name x) = if has_main before then use_fault o (declared_by before) x else declaration_fault o (declared_by before) x
+name_fault o before (signs.Name x) = if is_used_behind before then use_fault o (is_in_own before x) (declared_by before) x else declaration_fault o (declared_by before) x
 name_fault o before (signs.Function k) = if has_main before then call_fault before k else prototype_fault before k
 name_fault o before _ = None
 

@@ -3,10 +3,13 @@
 use Rattle.std.specs.Prelude.{◌≡◌, ℕ, Bool, true, false, not, ◌&&◌, List, [], ◌++◌, length, get_or, Option, None, unwrap_or, if◌then◌else◌}
 use Rattle.std.specs.List.{filter, list_any, range_with_len}
 use Rattle.std.specs.Str.{bytes_eq}
+use Rattle.c_grammar.specs.declared.constants.NameKind.TheVariants as kinds
 use Rattle.c_grammar.specs.declared.items.Item.{Item}
-use Rattle.c_grammar.specs.Kinds.{is_first_constant, is_declared_constant}
+use Rattle.c_grammar.specs.declared.items.Sign.{Sign}
+use Rattle.c_grammar.specs.Constants.{is_constant, kind_after}
+use Rattle.c_grammar.specs.Kinds.{name_as, is_first_constant, is_declared_constant}
 use Rattle.c_parser.specs.Items.{Listed}
-use Rattle.c_parser.specs.Names.{names_at, each_once}
+use Rattle.c_parser.specs.Names.{names_at, each_once, is_used_behind}
 
 -- the kind is the one that is asked, where constants are asked or variables
 abbrev pub is_asked : Bool → Bool → Bool
@@ -39,6 +42,10 @@ arranged features l = names_at l.names (variables_of features l ++ constants_of 
 -- the name is a constant's: by the kind that is kept for its number, or else by these later declarations
 abbrev pub is_constant_by : List (Option Bool) → List (ℕ × Bool) → ℕ → Bool
 is_constant_by kept later x = unwrap_or (get_or kept x None) (is_first_constant later x)
+
+-- an item behind these declares the name, of this kind
+abbrev pub declared_as : List Item → Sign → List (ℕ × Bool)
+declared_as before sign = if is_used_behind before then [] else name_as (is_constant (kind_after kinds.Variable before)) sign
 
 -- of each name the kind is kept that its first declaration has
 pub record AreKinds (count : ℕ) (items : List Item) (kept : List (Option Bool)) : Type 0 where

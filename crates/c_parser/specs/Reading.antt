@@ -16,6 +16,7 @@ use Rattle.c_tree.specs.View.{whole}
 use Rattle.c_tree.specs.declared.tree.Program.{Program}
 use Rattle.c_grammar.specs.declared.items.Item.{Item}
 use Rattle.c_grammar.specs.Grammar.{File, Forms}
+use Rattle.c_grammar.specs.LocalsOf.{declared_in}
 use Rattle.c_parser.specs.Functions.{functions_of_bytes}
 use Rattle.c_parser.specs.Items.{Listed, listed}
 use Rattle.feature_values.specs.Declarators.{with_presets}
@@ -89,8 +90,9 @@ own includes bytes = own_names (functions_of_bytes bytes) (items_of includes (fu
 abbrev pub IsPlainRead : Includes → List ℕ → Result Whole (FileCode × Place) → Type 0
 IsPlainRead includes bytes answer = IsPlainReadOver includes (own includes bytes) bytes answer
 
--- the names that the spelled file declares, each once: the variables, and behind them the constants, both in the order of their first
--- declaration. By first occurrence the names of its text stand in the order of their declarations, whatever they are
+-- the names that the spelled file declares, before `main` by its declarators and in `main`, each once: the variables, and behind them the
+-- constants, both in the order of their first declaration. By first occurrence the names of its text stand in the order of their
+-- declarations, whatever they are
 pub record AreDeclaredNames (includes : Includes) (bytes : List ℕ) (names : List (List ℕ)) : Type 0 where
   pub first : Listed
   pub first_are : items_of includes (functions_of_bytes bytes) [] bytes ≡ Ok first
@@ -98,7 +100,7 @@ pub record AreDeclaredNames (includes : Includes) (bytes : List ℕ) (names : Li
   pub items_are : items_of includes (functions_of_bytes bytes) names bytes ≡ Ok (record { names = names; items = items })
   pub file : File
   pub forms : Forms items file
-  pub declared : first.names ≡ each_once [] (names_at names (targets file.declared))
+  pub declared : first.names ≡ each_once [] (names_at names (targets (declared_in forms)))
   pub are : names ≡ arranged [] first
 
 abbrev pub AreAmong : List (List ℕ) → List Item → Type 0

@@ -7,7 +7,7 @@ ghost use Rattle.c_parser.specs.declared.names.Limits.{Limits};
 ghost use Rattle.c_parser.specs.Judging as judging;
 ghost use Rattle.c_parser.specs.Names as specs;
 
-use crate::names::{Known, contains};
+use crate::names::{Known, contains, uses_next};
 use c_grammar::{Item, Sign, Track};
 use fam_outer::{FileCode, NoMemory, Place};
 use std::alloc::Global;
@@ -71,14 +71,15 @@ impl Constants {
         }
     }
 
-    /// Goes on behind an item, behind others of which this is known: a name that is declared with `const` or `enum`, or by
+    /// Goes on behind an item, behind others of which this is known: a name that is declared, with `const` or `enum`, or by
     /// `#define`, is a constant's.
     pub(crate) fn follow(&mut self, known: &Known, item: Item) -> Result<(), NoMemory>
         ensures { (before : List items.Item) → judging.IsKnown before known.now
             → judging.AreHeld before self.old
             → OnOk result (judging.AreHeld (before ++ item ∷ []) self.new) }
     {
-        let is_constant = self.track.is_constant() && !known.in_main;
+        let is_used = uses_next(known.in_main, &self.track);
+        let is_constant = self.track.is_constant() && !is_used;
         declare_constant(&mut self.names, is_constant, item.sign)?;
         self.track.follow(item);
         Ok(())

@@ -129,13 +129,15 @@ fn with_values(
 /// The family that a file spells over a model. Over one list of names, a list of items spells at most one program.
 ///
 /// The file is one as `read_plain` reads it, in which groups of `#if`, `#ifdef`, `#ifndef`, `#elif`, `#else` and `#endif`
-/// may stand around whole declarations and whole statements, and behind `main` around nothing (ISO/IEC 9899:2011, 6.10.1).
-/// In the program a group in a list of statements is a `Cond`, with the number of its condition; an `#elif` opens one in
-/// the `no` side of the one before. Each declarator stands with the guards of the groups around it. Each name is one that
-/// the file declares, or that of an integer feature which it uses as a value: at most 16 variables, then the constants, and
-/// then the features, these two at most 16 together. A feature that is used has its value from tests of the feature, at most
-/// 256 in all, which stand behind the conditions of the file: by a declarator for each value, with the guard of its test. So
-/// there are at most 320 atoms. A file without group directives that names no feature gives a plain program.
+/// may stand around whole declarations and whole statements, and behind `main` around nothing (ISO/IEC 9899:2011, 6.10.1):
+/// so no group begins or ends in a declaration, before `main` or in it. In the program a group in a list of statements is a
+/// `Cond`, with the number of its condition; an `#elif` opens one in the `no` side of the one before. Each declarator before
+/// `main` stands with the guards of the groups around it; a declaration in `main` is read as a statement at each of its names,
+/// as `read_plain` reads it, and so it may stand in a `Cond`. Each name is one that the file declares, before `main` or in it,
+/// or that of an integer feature which it uses as a value: at most 16 variables, then the constants, and then the features,
+/// these two at most 16 together. A feature that is used has its value from tests of the feature, at most 256 in all, which
+/// stand behind the conditions of the file: by a declarator for each value, with the guard of its test. So there are at most
+/// 320 atoms. A file without group directives that names no feature gives a plain program.
 ///
 /// The earliest of these phases that has a fault decides, and in a phase the first place: `TooLong`, `OpenComment`, `Splice`
 /// and `CommentAtDirective` as `cpp_lines::blanked_file` has them; `Directive` to `TooManyTests` as
@@ -143,8 +145,10 @@ fn with_values(
 /// directives; at the first token or group directive, or the end, at which no file goes on, `GroupInsideStatement` where it
 /// is a group directive, or an `else` directly behind one, and else `Syntax`; `TooDeep` at the first at which some file goes
 /// on, but none within the limits (`read_plain` has them; a group and each `#elif` count as well); and then the first
-/// fault of a name as `family_names::first_name_fault` has it, with the least valid configuration as its example.
-/// `NoMemory` is want of memory.
+/// fault of a name as `family_names::first_name_fault` has it, with the least valid configuration as its example. So a name
+/// that `main` declares is `Undeclared` up to the end of its declarator, and `Twice` where some valid configuration keeps
+/// another declaration of it too, in whichever blocks they stand; and it counts as the others for `TooManyVariables` and
+/// `TooManyConstants`. `NoMemory` is want of memory.
 pub fn read_family(
     alloc: Global,
     dialect: Dialect,

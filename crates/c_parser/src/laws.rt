@@ -11,6 +11,7 @@ ghost use Rattle.c_tree.specs.Tree.{Whole};
 ghost use Rattle.c_parser.specs.Items.{Listed};
 ghost use Rattle.c_grammar.specs.declared.items.Item.{Item};
 ghost use Rattle.c_grammar.specs.Grammar.{File, Forms, has_groups};
+ghost use Rattle.c_grammar.specs.LocalsOf.{declared_in};
 ghost use Rattle.cpp_conditions.specs.Validity.{Plain};
 ghost use Rattle.cpp_lines.specs.Sections.{Told};
 ghost use Rattle.c_parser.specs.FamilyItems.{HasItems, has};
@@ -52,10 +53,11 @@ pub fn names_are_declared()
     places_rise();
 }
 
-/// What stands as declared in phase 6, each name before `main`, is what the grammar declares: the targets of the
-/// declarators of the file that the items form, in the order of the text.
+/// What stands as declared in phase 6, each name before `main` and the names of declarations in it, is what the grammar
+/// declares: the targets of the declarators of the file that the items form, in the order of the text.
 pub fn declarations_are_those_of_the_grammar()
-    ensures { (items : List Item) (f : File) → Forms items f → declared_by items ≡ targets f.declared }
+    ensures { (items : List Item) (f : File) (forms : Forms items f)
+        → declared_by items ≡ targets (declared_in forms) }
 {}
 
 /// Each name of a file with groups occurs among its items.

@@ -5,7 +5,8 @@ ghost use Rattle.std.specs.Prelude.{◌≡◌, nat_eq, List, IfOk};
 ghost use Rattle.std.specs.List.{list_any};
 ghost use Rattle.c_parser.specs.Names as specs;
 ghost use Rattle.c_grammar.specs.declared.items.Item as items;
-ghost use Rattle.c_grammar.specs.Constants.{IsTrack};
+ghost use Rattle.c_grammar.specs.Changes.{IsTrack};
+ghost use Rattle.c_grammar.specs.Locals.{is_in_own};
 ghost use Rattle.c_parser.specs.declared.names.Limits as limits;
 ghost use Rattle.c_parser.specs.Judging.{Declares, IsKnown, Judges, counted};
 
@@ -68,14 +69,33 @@ fn declaration_fault(limits: Limits, declared: &[u32], number: u32) -> Option<Fi
     limit_fault(limits, number)
 }
 
-/// The fault of a use.
-fn use_fault(declared: &[u32], number: u32) -> Option<FileCode>
-    ensures { (counts : limits.Limits) → result ≡ specs.use_fault (counted counts) declared.now number }
+/// The fault of a use, in the name's own declarator or not: the scope of a name begins behind its declarator.
+fn use_fault(is_in_own: bool, declared: &[u32], number: u32) -> Option<FileCode>
+    ensures { (counts : limits.Limits) → result ≡ specs.use_fault (counted counts) is_in_own declared.now number }
 {
-    if contains(declared, number) {
+    if !is_in_own && contains(declared, number) {
         None
     } else {
         Some(FileCode::Undeclared(None))
+    }
+}
+
+/// Whether a name that comes next is used: it stands in `main`, and not where a name is declared.
+#[tactic(auto, using(crate::proofs::Judging::used_next))]
+pub(crate) fn uses_next(in_main: bool, track: &Track) -> bool
+    ensures { (before : List items.Item) → in_main ≡ specs.has_main before → IsTrack before track.now
+        → result ≡ specs.is_used_behind before }
+{
+    in_main && !track.declares()
+}
+
+/// Whether a name that comes next stands in its own declarator.
+fn is_in_own(track: &Track, number: u32) -> bool
+    ensures { (before : List items.Item) → IsTrack before track.now → result ≡ is_in_own before number }
+{
+    match track.open() {
+        Some(open) => number == open,
+        None => false,
     }
 }
 
@@ -110,8 +130,9 @@ fn judge(
             Ok(None)
         }
         Sign::Name(number) => {
-            if known.in_main {
-                Ok(use_fault(&known.declared, number))
+            if uses_next(known.in_main, track) {
+                let is_in_own = is_in_own(track, number);
+                Ok(use_fault(is_in_own, &known.declared, number))
             } else {
                 declare(limits, &mut known.declared, number)
             }

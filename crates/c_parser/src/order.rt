@@ -1,17 +1,20 @@
 //! The order of the names of a program: variables, constants, and the features that the code names.
 #![tactic(auto)]
 
-ghost use Rattle.std.specs.Prelude.{◌≡◌, ◌<◌, ℕ, Bool, List, [], ◌∷◌, ◌++◌, length, map, IfOk, OnOk, if◌then◌else◌};
+ghost use Rattle.std.specs.Prelude.{◌≡◌, ◌<◌, ◌||◌, ℕ, Bool, List, [], ◌∷◌, ◌++◌, length, map, IfOk, OnOk, if◌then◌else◌};
 ghost use Rattle.std.specs.List.{filter, list_any};
 ghost use Rattle.std.specs.Str.{bytes_eq};
 ghost use Rattle.c_grammar.specs.Facts.{AreFit, IsFit};
-ghost use Rattle.c_grammar.specs.Kinds.{is_main, name_as};
+ghost use Rattle.c_grammar.specs.Changes.{IsTrack};
+ghost use Rattle.c_grammar.specs.Kinds.{name_as};
+ghost use Rattle.c_grammar.specs.Locals.{is_main};
 ghost use Rattle.c_grammar.specs.declared.items.Item as items;
 ghost use Rattle.c_parser.specs.Items.{Listed};
-ghost use Rattle.c_parser.specs.Names.{names_at, each_once};
+ghost use Rattle.c_parser.specs.Names.{has_main, names_at, each_once};
 ghost use Rattle.c_parser.specs.Order as specs;
 ghost use Rattle.c_parser.specs.Stages.{list};
 
+use crate::names::uses_next;
 use c_grammar::{Item, Sign, Track};
 use c_tree::Names;
 use fam_outer::{NoMemory, Text};
@@ -50,11 +53,11 @@ fn has_feature(features: &[Feature], name: &Text) -> bool
     false
 }
 
-/// Whether the sign is `main`.
-fn is_main(sign: Sign) -> bool
-    ensures { result ≡ is_main sign }
+/// Whether an item behind one with this sign stands in `main`, where this one does or does not.
+fn stands_in_main(in_main: bool, sign: Sign) -> bool
+    ensures { result ≡ (in_main || is_main sign) }
 {
-    matches!(sign, Sign::Main)
+    in_main || matches!(sign, Sign::Main)
 }
 
 /// Keeps the kind of a name, where the sign is one of which no kind is kept.
@@ -72,18 +75,31 @@ fn keep_kind(kept: &mut Vec<Option<bool>>, is_constant: bool, sign: Sign)
     }
 }
 
-/// For each name the kind that its first declaration has, in one pass over the items before `main`.
+/// Keeps the kind of a name that is declared behind items that this tells of, where the sign is one of which no kind is
+/// kept.
+fn keep_declared(kept: &mut Vec<Option<bool>>, in_main: bool, track: &Track, sign: Sign)
+    requires { IsFit (length kept.old.items) sign }
+    ensures count { length kept.new.items ≡ length kept.old.items }
+    ensures first { (before : List items.Item) → in_main ≡ has_main before → IsTrack before track.now
+        → (later : List (ℕ × Bool)) (x : ℕ) → specs.is_constant_by kept.new.items later x
+        ≡ specs.is_constant_by kept.old.items (specs.declared_as before sign ++ later) x }
+{
+    if !uses_next(in_main, track) {
+        keep_kind(kept, track.is_constant(), sign);
+    }
+}
+
+/// For each name the kind that its first declaration has, in one pass over the items.
 fn first_kinds(alloc: Global, count: usize, items: &[Item]) -> Result<Vec<Option<bool>>, NoMemory>
     requires { AreFit count items.now }
     ensures { IfOk result (λ kept. specs.AreKinds count items.now kept.items) }
 {
     let mut kept: Vec<Option<bool>> = vec![in alloc; None; count]?;
     let mut track = Track::new();
+    let mut in_main = false;
     for item in items {
-        if is_main(item.sign) {
-            return Ok(kept);
-        }
-        keep_kind(&mut kept, track.is_constant(), item.sign);
+        keep_declared(&mut kept, in_main, &track, item.sign);
+        in_main = stands_in_main(in_main, item.sign);
         track.follow(*item);
     }
     Ok(kept)

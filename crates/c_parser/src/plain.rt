@@ -185,21 +185,25 @@ fn own_names(
 /// The program that a file spells. Over one list of names, a list of items spells at most one.
 ///
 /// A file is a list of declarations and then `main`, of the grammar of `c_grammar`, without groups: assignments, `x++`
-/// and `x += e` and the like, `input()`, `assert`, `if`, `while`, blocks and empty statements, with the operators
-/// `! - + * / % < <= > >= == != && ||` of C (ISO/IEC 9899:2011, 6.5, 6.7 and 6.8). Comments are blanked and
-/// `#include <assert.h>` is left out, and where includes are skipped each other one too. The names of the program are those
-/// that the file declares, at most 16 variables and behind them at most 16 constants, both in the order of their first
-/// declaration, and a name without a start value starts at 0.
+/// and `x += e` and the like, `input()`, `assert`, `if`, `while`, blocks, empty statements, and declarations among the
+/// statements of `main` and of its blocks, with the operators `! - + * / % < <= > >= == != && ||` of C (ISO/IEC 9899:2011,
+/// 6.5, 6.7 and 6.8). In `main` a declaration `int x = e;` is read as the assignment `x = e;`, and `int x = input();` as an
+/// input; so is `int x;`, whose value is indeterminate, which is any value (6.7.9p10). A list, as in `int x = 1, y;`, is read
+/// one by one, each at its name. Comments are blanked and `#include <assert.h>` is left out, and where includes are skipped
+/// each other one too. The names of the program are those that the file declares, before `main` and in it, at most 16
+/// variables and behind them at most 16 constants, both in the order of their first declaration, and a name without a start
+/// value starts at 0.
 ///
 /// The earliest of these phases that has a fault decides, and in a phase the first place: `TooLong` at 1:1 for more than
 /// 1,048,576 bytes; `OpenComment`, `Splice` and `CommentAtDirective` as `cpp_lines::blank_comments` has them; `Directive`
 /// and `GroupHere` as `cpp_lines::plain_lines` has them; `StrayByte` and `Literal` as `c_tokens::tokens` has them;
 /// `Syntax` at the first token, or the end, at which no file goes on, and `TooDeep` at the first token at which some file
 /// goes on but none within the limits: an `if`, `while` or block with 64 of these around it, or the 65th operator or
-/// opening parenthesis of an expression; and then `Undeclared` at a name that is used and nowhere
-/// declared, `Twice` at the second declaration of a name, `TooManyVariables` at the declaration of the 17th variable,
-/// `TooManyConstants` at that of the 17th constant, and `ChangedConstant` at a constant that is changed. `NoMemory` is want
-/// of memory.
+/// opening parenthesis of an expression; and then `Undeclared` at a name that is used where no declaration of it stands
+/// before, or in its own declarator, as in `int x = x;`, since its scope begins behind that (6.2.1); `Twice` at the second
+/// declaration of a name, also where one or both stand in blocks; `TooManyVariables` at the declaration of the 17th variable,
+/// those of `main` among them; `TooManyConstants` at that of the 17th constant; and `ChangedConstant` at a constant that is
+/// changed, which its own initialiser doesn't do. `NoMemory` is want of memory.
 pub fn read_plain(alloc: Global, includes: Includes, bytes: &[u8]) -> Result<Program, FileRefusal>
     ensures reads { specs.IsRead includes bytes.now result }
     ensures names { IfOk result (λ p. specs.AreDeclaredNames includes bytes.now (whole p).names) }
@@ -230,8 +234,8 @@ pub fn read_plain(alloc: Global, includes: Includes, bytes: &[u8]) -> Result<Pro
 }
 
 /// The program that a file spells over these functions outside, and over these names, of which there are at most 48, all
-/// distinct, and among which are all that the file declares. Its names are these. It has the refusals of `read_plain`, but for `TooManyVariables` and
-/// `TooManyConstants`, since the given names are not counted.
+/// distinct, and among which are all that the file declares. Its names are these. It has the refusals of `read_plain`, but for
+/// `TooManyVariables` and `TooManyConstants`, since the given names are not counted.
 pub fn read_plain_with(
     alloc: Global,
     includes: Includes,

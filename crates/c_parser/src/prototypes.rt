@@ -3,7 +3,7 @@
 
 ghost use Rattle.std.specs.Prelude.{◌≡◌, [], ◌++◌, if◌then◌else◌, List, IfOk};
 ghost use Rattle.c_grammar.specs.declared.items.Item as items;
-ghost use Rattle.c_grammar.specs.Constants.{IsTrack};
+ghost use Rattle.c_grammar.specs.Changes.{IsTrack};
 ghost use Rattle.c_parser.specs.Judging as judging;
 ghost use Rattle.c_parser.specs.Names as specs;
 

@@ -36,7 +36,9 @@ pub fn family_names_are_few()
 /// Preprocessing and then reading is reading and then projecting. What stays of the text of an accepted family spells,
 /// over the family's names, the family's projection, but for the start values of features, for every list of truths of its
 /// conditions: so no variant is deeper than the limits. At a valid configuration that text is read over these names and the
-/// features' values as this program: so no name of a variant has a fault. The lines of an accepted family have none either, so `variant_text` has no refusal but want of memory.
+/// features' values as this program: so no name of a variant has a fault, and each that a variant uses is declared in it
+/// before, in `main` too, behind the end of its declarator. The lines of an accepted family have none either, so
+/// `variant_text` has no refusal but want of memory.
 pub fn variants_are_projections()
     ensures spelled { TextsSpellProjections }
     ensures texts { VariantsAreTexts }

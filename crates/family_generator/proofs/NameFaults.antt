@@ -1,5 +1,6 @@
 -- No name of a generated family has a fault.
 use Rattle.std.proofs.Common.{◌≡◌, ◌⊎◌, inl, inr, ℕ, ℤ, nat_eq, Bool, true, false, cond, not, ◌||◌, ◌&&◌, List, [], ◌∷◌, ◌++◌, length, take, drop, Option, Some, None, refl, ap, ◌∙◌, sym, subst, append_assoc, arith}
+use Rattle.std.specs.Prelude.{if◌then◌else◌}
 use Rattle.std.proofs.lemmas.Bool.Decides.{nat_tests}
 use Rattle.fam_outer.specs.declared.faults.Place.{Place}
 use Rattle.fam_outer.specs.declared.faults.FileCode.{FileCode}
@@ -7,12 +8,18 @@ use Rattle.fam_outer.specs.declared.faults.FileCode.TheVariants.{Undeclared, Twi
 use Rattle.linear_atoms.specs.declared.atoms.Config.{Config}
 use Rattle.cpp_conditions.specs.declared.models.Model.{Model}
 use Rattle.atom_solver.specs.Solutions.{Finds}
+use Rattle.c_grammar.specs.declared.constants.NameKind.TheVariants as kinds
 use Rattle.c_grammar.specs.declared.items.Item.{Item}
 use Rattle.c_grammar.specs.declared.items.Sign.{Sign}
 use Rattle.c_grammar.specs.declared.items.Sign.TheVariants as signs
-use Rattle.c_grammar.specs.Constants.{is_change, name_at, changed_from, changed_behind, last_from, changed_at}
+use Rattle.c_grammar.specs.Changes.{is_change, name_at, changed_from, changed_behind, changed_outside, changed_at}
+use Rattle.c_grammar.specs.Constants.{is_name, constants_from, last_from}
+use Rattle.c_grammar.specs.Functions.{has_sign}
 use Rattle.c_grammar.specs.Grammar.{at}
-use Rattle.family_names.specs.Names.{NameContext, IsWithFirst, IsEither, IsUseFault, IsDeclarationFault, IsNameFault, IsChangeOf, IsChangeFault, IsChangeOr, changed_place, IsThisOr, IsFaultFrom, IsFirstNameFault, is_feature, is_value, is_missed, is_met_again, is_met_constant, is_kept, is_among, truths_at, declared_at, constants_of, values_of, value_fault, full_fault, new_name_fault, code_with}
+use Rattle.c_grammar.specs.Kept.{kept_from}
+use Rattle.c_grammar.specs.Locals.{is_main, is_declaring, declarations_from, opened_by, open_from, is_open, is_in_own, open_behind, name_of, names_of}
+use Rattle.family_names.specs.Names.{NameContext, IsWithFirst, IsEither, IsUseFault, IsDeclarationFault, IsNameFault, IsChangeOf, IsChangeFault, IsChangeOr, changed_place, IsThisOr, IsFaultFrom, IsFirstNameFault, is_feature, is_value, is_missed, is_met_again, is_met_constant, is_kept, is_among, truths_at, declared_at, constants_at, constants_of, values_of, value_fault, full_fault, new_name_fault, code_with}
+use Rattle.family_names.proofs.Declared.{among_kept}
 use Rattle.family_names.proofs.Features.{no_value}
 use Rattle.family_generator.proofs.Signs.{laid, header_signs}
 
@@ -48,9 +55,94 @@ or_true : (a b : Bool) → b ≡ true → (a || b) ≡ true
 or_true true b e = refl
 or_true false b e = e
 
-among_both : (x y z : ℕ) → (z ≡ x) ⊎ (z ≡ y) → is_among z (x ∷ y ∷ []) ≡ true
-among_both x y z (inl e) = ap (λ (t : Bool). t || (nat_eq z y || false)) (subst (λ (k : ℕ). nat_eq z k ≡ true) e (same_number z))
-among_both x y z (inr e) = or_true (nat_eq z x) (nat_eq z y || false) (ap (λ (t : Bool). t || false) (subst (λ (k : ℕ). nat_eq z k ≡ true) e (same_number z)))
+among_both : (x y z : ℕ) (others : List ℕ) → (z ≡ x) ⊎ (z ≡ y) → is_among z (x ∷ y ∷ others) ≡ true
+among_both x y z others (inl e) = ap (λ (t : Bool). t || (nat_eq z y || is_among z others)) (subst (λ (k : ℕ). nat_eq z k ≡ true) e (same_number z))
+among_both x y z others (inr e) = or_true (nat_eq z x) (nat_eq z y || is_among z others) (ap (λ (t : Bool). t || is_among z others) (subst (λ (k : ℕ). nat_eq z k ≡ true) e (same_number z)))
+
+-- names among these signs are one of both, and no sign declares another one
+abbrev pub IsOwn : ℕ → ℕ → Sign → Type 0
+IsOwn x y (signs.Name z) = (z ≡ x) ⊎ (z ≡ y)
+IsOwn x y (signs.Function k) = ⊥
+IsOwn x y signs.Int = ⊥
+IsOwn x y signs.Int32 = ⊥
+IsOwn x y signs.Signed = ⊥
+IsOwn x y signs.Comma = ⊥
+IsOwn x y signs.Const = ⊥
+IsOwn x y signs.Enum = ⊥
+IsOwn x y signs.Define = ⊥
+IsOwn x y _ = Unit {0}
+
+abbrev pub AreOwn : ℕ → ℕ → List Item → Type 0
+AreOwn x y [] = Unit {0}
+AreOwn x y (i ∷ is) = IsOwn x y i.sign × AreOwn x y is
+
+abbrev IsOwnLast : ℕ → ℕ → Option Item → Type 0
+IsOwnLast x y None = Unit {0}
+IsOwnLast x y (Some i) = IsOwn x y i.sign
+
+own_both : (x y : ℕ) (is js : List Item) → AreOwn x y is → AreOwn x y js → AreOwn x y (is ++ js)
+own_both x y [] js h k = k
+own_both x y (i ∷ is) js h k = (h.0, own_both x y is js h.1 k)
+
+-- behind them a name is used, and in no declarator
+not_declaring : (x y : ℕ) (s : Sign) → IsOwn x y s → is_declaring s ≡ false
+not_declaring x y signs.Int h = absurd h
+not_declaring x y signs.Int32 h = absurd h
+not_declaring x y signs.Signed h = absurd h
+not_declaring x y signs.Comma h = absurd h
+not_declaring x y signs.Const h = absurd h
+not_declaring x y _ h = refl
+
+used_next : (x y : ℕ) (last : Option Item) → IsOwnLast x y last → not (has_sign is_declaring last) ≡ true
+used_next x y None h = refl
+used_next x y (Some i) h = ap not (not_declaring x y i.sign h)
+
+none_opened : (s : Sign) → opened_by false None s ≡ None
+none_opened signs.Comma = refl
+none_opened signs.Semicolon = refl
+none_opened _ = refl
+
+in_none : (x y : ℕ) (is : List Item) → AreOwn x y is → open_from false None is ≡ None
+in_none x y [] h = refl
+in_none x y (i ∷ is) h =
+    ap (λ (b : Bool). open_from b (opened_by false None i.sign) is) (not_declaring x y i.sign h.0) ∙ ap (λ (o : Option ℕ). open_from false o is) (none_opened i.sign) ∙ in_none x y is h.1
+
+-- and none of them is declared as a constant
+no_name_kept : (x y : ℕ) (s : Sign) (p : Place) (w : List Item) → IsOwn x y s → names_of (constants_from kinds.Variable w) ≡ [] → names_of (constants_from kinds.Variable (at p s ∷ w)) ≡ []
+no_name_kept x y (signs.Function k) p w o h = absurd o
+no_name_kept x y signs.Int p w o h = absurd o
+no_name_kept x y signs.Int32 p w o h = absurd o
+no_name_kept x y signs.Signed p w o h = absurd o
+no_name_kept x y signs.Comma p w o h = absurd o
+no_name_kept x y signs.Const p w o h = absurd o
+no_name_kept x y signs.Enum p w o h = absurd o
+no_name_kept x y signs.Define p w o h = absurd o
+no_name_kept x y _ p w o h = h
+
+no_constant_in : (x y : ℕ) (is : List Item) → AreOwn x y is → names_of (constants_from kinds.Variable is) ≡ []
+no_constant_in x y [] h = refl
+no_constant_in x y (i ∷ is) h = no_name_kept x y i.sign i.place is h.0 (no_constant_in x y is h.1)
+
+none_first : (ns ms : List ℕ) → ns ++ ms ≡ [] → (ns ≡ []) × (ms ≡ [])
+none_first [] ms e = (refl, e)
+none_first (n ∷ ns) ms e = absurd cc
+
+-- where no name stands, none is declared
+none_declared : (main declaring : Bool) (w : List Item) → names_of w ≡ [] → names_of (declarations_from main declaring w) ≡ []
+none_declared main declaring [] e = refl
+none_declared main declaring (i ∷ is) e =
+    let split = none_first (name_of i.sign) (names_of is) e in
+    let rest : names_of (declarations_from (main || is_main i.sign) (is_declaring i.sign) is) ≡ [] = none_declared (main || is_main i.sign) (is_declaring i.sign) is split.1 in
+    elim (main && not declaring && is_name i.sign) as (λ b. names_of (if b then declarations_from (main || is_main i.sign) (is_declaring i.sign) is else i ∷ declarations_from (main || is_main i.sign) (is_declaring i.sign) is) ≡ []) [
+      | true ↦ rest
+      | false ↦ ap (λ (ns : List ℕ). ns ++ names_of (declarations_from (main || is_main i.sign) (is_declaring i.sign) is)) split.0 ∙ rest
+    ]
+
+not_among : (n : ℕ) (truths : List Bool) (w : List Item) → names_of w ≡ [] → is_among n (names_of (kept_from truths [] w)) ≡ false
+not_among n truths w e = elim (is_among n (names_of (kept_from truths [] w))) as (λ b. is_among n (names_of (kept_from truths [] w)) ≡ b → b ≡ false) [
+  | true ↦ λ h. (let bad : true ≡ false = sym (among_kept n truths [] w h) ∙ ap (is_among n) e in absurd cc)
+  | false ↦ λ _. refl
+] refl
 
 abbrev use_by : NameContext → List Item → ℕ → Option FileCode → Bool → Type 0
 use_by context before z fault b = IsEither b (IsWithFirst context.model (is_missed context before z) Undeclared None fault) (fault ≡ Some (Undeclared None))
@@ -58,36 +150,36 @@ use_by context before z fault b = IsEither b (IsWithFirst context.model (is_miss
 abbrev other_by : NameContext → List Item → ℕ → Option FileCode → Bool → Bool → Type 0
 other_by context before z fault b feature = IsEither feature (fault ≡ Some FeatureInCode) (use_by context before z fault b)
 
+-- a declared name that stands in no declarator of its own is not missed
+not_missed : (own declared : Bool) → own ≡ false → declared ≡ true → (own || not declared) ≡ false
+not_missed own declared e h = ap (λ (b : Bool). b || not declared) e ∙ ap not h
+
 -- a use of a declared name has no fault
-used : (context : NameContext) (f : ℕ → Place) (x y z : ℕ) (mid : List Item) (fault : Option FileCode) → (z ≡ x) ⊎ (z ≡ y) → is_feature context z ≡ false → IsUseFault context (header f x y ++ mid) z fault → fault ≡ None
-used context f x y z mid fault one free h =
+used : (context : NameContext) (f : ℕ → Place) (x y z : ℕ) (mid : List Item) (fault : Option FileCode) → AreOwn x y mid → (z ≡ x) ⊎ (z ≡ y) → is_feature context z ≡ false → IsUseFault context (header f x y ++ mid) z fault → fault ≡ None
+used context f x y z mid fault own one free h =
     let before : List Item = header f x y ++ mid in
-    let other : other_by context (header f x y ++ mid) z fault (is_among z (x ∷ y ∷ [])) (is_feature context z) =
-    subst (λ (b : Bool). IsEither b (fault ≡ value_fault context (values_of context before) (length (constants_of before)) z) (other_by context before z fault (is_among z (x ∷ y ∷ [])) (is_feature context z)))
+    let there : List ℕ = names_of (declarations_from true false mid) in
+    let other : other_by context (header f x y ++ mid) z fault (is_among z (x ∷ y ∷ there)) (is_feature context z) =
+    subst (λ (b : Bool). IsEither b (fault ≡ value_fault context (values_of context before) (length (constants_of before)) z) (other_by context before z fault (is_among z (x ∷ y ∷ there)) (is_feature context z)))
     (no_value context z free) h in
-    let declared : use_by context (header f x y ++ mid) z fault (is_among z (x ∷ y ∷ [])) = subst (other_by context (header f x y ++ mid) z fault (is_among z (x ∷ y ∷ []))) free other in
-    let found = subst (use_by context (header f x y ++ mid) z fault) (among_both x y z one) declared in
+    let declared : use_by context (header f x y ++ mid) z fault (is_among z (x ∷ y ∷ there)) = subst (other_by context (header f x y ++ mid) z fault (is_among z (x ∷ y ∷ there))) free other in
+    let found = subst (use_by context (header f x y ++ mid) z fault) (among_both x y z there one) declared in
     other_one context.model (is_missed context (header f x y ++ mid) z) Undeclared None fault
-    (λ values e. none_holds (is_kept (truths_at context values) (header f x y ++ mid)) (not (is_among z (x ∷ y ∷ []))) (ap not (among_both x y z one)) e) found
-
--- names among these signs are one of both
-abbrev pub IsOwn : ℕ → ℕ → Sign → Type 0
-IsOwn x y (signs.Name z) = (z ≡ x) ⊎ (z ≡ y)
-IsOwn x y (signs.Function k) = ⊥
-IsOwn x y _ = Unit {0}
-
-abbrev pub AreOwn : ℕ → ℕ → List Item → Type 0
-AreOwn x y [] = Unit {0}
-AreOwn x y (i ∷ is) = IsOwn x y i.sign × AreOwn x y is
+    (λ values e. (
+    let kept : List ℕ = names_of (kept_from (truths_at context values) [] (declarations_from true false mid)) in
+    none_holds (is_kept (truths_at context values) (header f x y ++ mid)) (is_in_own (header f x y ++ mid) z || not (is_among z (x ∷ y ∷ kept)))
+    (not_missed (is_in_own (header f x y ++ mid) z) (is_among z (x ∷ y ∷ kept)) (ap (is_open z) (in_none x y mid own)) (among_both x y z kept one)) e)) found
 
 free_one : (context : NameContext) (x y z : ℕ) → AreFree context x y → (z ≡ x) ⊎ (z ≡ y) → is_feature context z ≡ false
 free_one context x y z h (inl e) = subst (λ (k : ℕ). is_feature context k ≡ false) (sym e) h.first
 free_one context x y z h (inr e) = subst (λ (k : ℕ). is_feature context k ≡ false) (sym e) h.second
 
-no_fault_at : (context : NameContext) (f : ℕ → Place) (x y : ℕ) (mid : List Item) (s : Sign) (code : Option FileCode) → AreFree context x y → IsOwn x y s → IsNameFault context (header f x y ++ mid) s code → code ≡ None
-no_fault_at context f x y mid (signs.Name z) code free own h = used context f x y z mid code own (free_one context x y z free own) h
-no_fault_at context f x y mid (signs.Function k) code free own h = absurd own
-no_fault_at context f x y mid _ code free own h = h
+no_fault_at : (context : NameContext) (f : ℕ → Place) (x y : ℕ) (mid : List Item) (s : Sign) (code : Option FileCode) → AreFree context x y → AreOwn x y mid → IsOwnLast x y (last_from None (header f x y ++ mid)) → IsOwn x y s → IsNameFault context (header f x y ++ mid) s code → code ≡ None
+no_fault_at context f x y mid (signs.Name z) code free all last own h =
+    used context f x y z mid code all own (free_one context x y z free own)
+    (subst (λ (b : Bool). IsEither b (IsUseFault context (header f x y ++ mid) z code) (IsDeclarationFault context (header f x y ++ mid) z code)) (used_next x y (last_from None (header f x y ++ mid)) last) h)
+no_fault_at context f x y mid (signs.Function k) code free all last own h = absurd own
+no_fault_at context f x y mid _ code free all last own h = h
 
 later : (code : Option FileCode) (place : Place) (fault : Option (FileCode × Place)) (L : Type 0) → code ≡ None → IsThisOr code place fault L → L
 later code place fault L e h = subst (λ (c : Option FileCode). IsThisOr c place fault L) e h
@@ -96,10 +188,6 @@ later code place fault L e h = subst (λ (c : Option FileCode). IsThisOr c place
 abbrev IsOwnChange : ℕ → ℕ → Option (ℕ × Place) → Type 0
 IsOwnChange x y None = Unit {0}
 IsOwnChange x y (Some change) = (change.0 ≡ x) ⊎ (change.0 ≡ y)
-
-abbrev IsOwnLast : ℕ → ℕ → Option Item → Type 0
-IsOwnLast x y None = Unit {0}
-IsOwnLast x y (Some i) = IsOwn x y i.sign
 
 own_at : (x y : ℕ) (changes : Bool) (s : Sign) (p : Place) → IsOwn x y s → IsOwnChange x y (name_at changes s p)
 own_at x y true (signs.Name z) p h = h
@@ -115,31 +203,39 @@ own_behind : (x y : ℕ) (last : Option Item) (i : Item) → IsOwnLast x y last 
 own_behind x y None i h k = tt
 own_behind x y (Some j) i h k = own_from x y j.place j.sign i h k
 
+own_outside : (x y : ℕ) (opened : Option ℕ) (last : Option Item) (i : Item) → IsOwnLast x y last → IsOwn x y i.sign → IsOwnChange x y (changed_outside opened last i)
+own_outside x y None last i h k = own_behind x y last i h k
+own_outside x y (Some z) last i h k = tt
+
 last_more : (last : Option Item) (before : List Item) (i : Item) → last_from last (before ++ i ∷ []) ≡ Some i
 last_more last [] i = refl
 last_more last (j ∷ js) i = last_more (Some j) js i
 
 -- there is no constant, and both are no values
-unchanged_by : (context : NameContext) (f : ℕ → Place) (x y : ℕ) (mid : List Item) (change : Option (ℕ × Place)) (code : Option FileCode) → AreFree context x y → IsOwnChange x y change → IsChangeOf context (header f x y ++ mid) change code → code ≡ None
-unchanged_by context f x y mid None code free own h = h
-unchanged_by context f x y mid (Some change) code free own h =
-    let other : (is_value context change.0 || false) ≡ false = ap (λ (b : Bool). b || false) (no_value context change.0 (free_one context x y change.0 free own)) in
+unchanged_by : (context : NameContext) (f : ℕ → Place) (x y : ℕ) (mid : List Item) (change : Option (ℕ × Place)) (code : Option FileCode) → AreFree context x y → AreOwn x y mid → IsOwnChange x y change → IsChangeOf context (header f x y ++ mid) change code → code ≡ None
+unchanged_by context f x y mid None code free all own h = h
+unchanged_by context f x y mid (Some change) code free all own h =
     other_one context.model (is_met_constant context (header f x y ++ mid) change.0) (λ example. ChangedConstant) None code
-    (λ values e. none_holds (is_kept (truths_at context values) (header f x y ++ mid)) (is_value context change.0 || false) other e) h
+    (λ values e. (
+    let constant : Bool = is_among change.0 (constants_at (truths_at context values) (header f x y ++ mid)) in
+    let none : is_among change.0 (constants_at (truths_at context values) (header f x y ++ mid)) ≡ false =
+    not_among change.0 (truths_at context values) (declarations_from true false (constants_from kinds.Variable mid)) (none_declared true false (constants_from kinds.Variable mid) (no_constant_in x y mid all)) in
+    let other : (is_value context change.0 || constant) ≡ false = ap (λ (b : Bool). b || constant) (no_value context change.0 (free_one context x y change.0 free own)) ∙ none in
+    none_holds (is_kept (truths_at context values) (header f x y ++ mid)) (is_value context change.0 || constant) other e)) h
 
-unchanged : (context : NameContext) (f : ℕ → Place) (x y : ℕ) (mid : List Item) (i : Item) (code : Option FileCode) → AreFree context x y → IsOwnLast x y (last_from None (header f x y ++ mid)) → IsOwn x y i.sign
+unchanged : (context : NameContext) (f : ℕ → Place) (x y : ℕ) (mid : List Item) (i : Item) (code : Option FileCode) → AreFree context x y → AreOwn x y mid → IsOwnLast x y (last_from None (header f x y ++ mid)) → IsOwn x y i.sign
     → IsChangeFault context (header f x y ++ mid) i code → code ≡ None
-unchanged context f x y mid i code free last own h =
-    unchanged_by context f x y mid (changed_at (header f x y ++ mid) i) code free (own_behind x y (last_from None (header f x y ++ mid)) i last own) h
+unchanged context f x y mid i code free all last own h =
+    unchanged_by context f x y mid (changed_at (header f x y ++ mid) i) code free all (own_outside x y (open_behind (header f x y ++ mid)) (last_from None (header f x y ++ mid)) i last own) h
 
-pub behind_header : (context : NameContext) (f : ℕ → Place) (x y : ℕ) (mid xs : List Item) (fault : Option (FileCode × Place)) → AreFree context x y → IsOwnLast x y (last_from None (header f x y ++ mid)) → AreOwn x y xs
+pub behind_header : (context : NameContext) (f : ℕ → Place) (x y : ℕ) (mid xs : List Item) (fault : Option (FileCode × Place)) → AreFree context x y → AreOwn x y mid → IsOwnLast x y (last_from None (header f x y ++ mid)) → AreOwn x y xs
     → IsFaultFrom context (header f x y ++ mid) xs fault → fault ≡ None
-behind_header context f x y mid [] fault free last own h = h
-behind_header context f x y mid (i ∷ is) fault free last own h =
-    let change = later h.0 i.place fault (IsChangeOr context (header f x y ++ mid) i fault (IsFaultFrom context ((header f x y ++ mid) ++ i ∷ []) is fault)) (no_fault_at context f x y mid i.sign h.0 free own.0 h.1) h.2 in
-    let next = later change.0 (changed_place (header f x y ++ mid) i) fault (IsFaultFrom context ((header f x y ++ mid) ++ i ∷ []) is fault) (unchanged context f x y mid i change.0 free last own.0 change.1) change.2 in
+behind_header context f x y mid [] fault free all last own h = h
+behind_header context f x y mid (i ∷ is) fault free all last own h =
+    let change = later h.0 i.place fault (IsChangeOr context (header f x y ++ mid) i fault (IsFaultFrom context ((header f x y ++ mid) ++ i ∷ []) is fault)) (no_fault_at context f x y mid i.sign h.0 free all last own.0 h.1) h.2 in
+    let next = later change.0 (changed_place (header f x y ++ mid) i) fault (IsFaultFrom context ((header f x y ++ mid) ++ i ∷ []) is fault) (unchanged context f x y mid i change.0 free all last own.0 change.1) change.2 in
     let same : Some i ≡ last_from None (header f x y ++ (mid ++ i ∷ [])) = sym (last_more None (header f x y ++ mid) i) ∙ ap (last_from None) (append_assoc (header f x y) mid (i ∷ [])) in
-    behind_header context f x y (mid ++ i ∷ []) is fault free (subst (IsOwnLast x y) same own.0) own.1 (subst (λ (b : List Item). IsFaultFrom context b is fault) (append_assoc (header f x y) mid (i ∷ [])) next)
+    behind_header context f x y (mid ++ i ∷ []) is fault free (own_both x y mid (i ∷ []) all (own.0, tt)) (subst (IsOwnLast x y) same own.0) own.1 (subst (λ (b : List Item). IsFaultFrom context b is fault) (append_assoc (header f x y) mid (i ∷ [])) next)
 
 -- ---- the header
 
@@ -190,4 +286,4 @@ no_fault context f x y rest fault free own h =
     let h9 = next_item context (front f x y 9) (at (f 9) (signs.Void)) (behind f x y rest 10) fault (λ code e. e) (λ code e. e) h8 in
     let h10 = next_item context (front f x y 10) (at (f 10) (signs.Close)) (behind f x y rest 11) fault (λ code e. e) (λ code e. e) h9 in
     let h11 = next_item context (front f x y 11) (at (f 11) (signs.LeftBrace)) (behind f x y rest 12) fault (λ code e. e) (λ code e. e) h10 in
-    behind_header context f x y [] rest fault free tt own h11
+    behind_header context f x y [] rest fault free tt tt own h11

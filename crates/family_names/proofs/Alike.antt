@@ -18,12 +18,14 @@ use Rattle.c_grammar.specs.declared.items.Item.{Item}
 use Rattle.c_grammar.specs.declared.items.Sign.{Sign}
 use Rattle.c_grammar.specs.declared.items.Sign.TheVariants as signs
 use Rattle.c_grammar.specs.declared.constants.NameKind.TheVariants as kinds
-use Rattle.c_grammar.specs.Constants.{is_constant, kind_after, changed_at}
+use Rattle.c_grammar.specs.Changes.{changed_at}
+use Rattle.c_grammar.specs.Constants.{is_constant, kind_after}
 use Rattle.c_grammar.specs.Functions.{is_void, is_equals, stands_behind}
+use Rattle.c_grammar.specs.Locals.{is_in_own}
 use Rattle.atom_solver.specs.Solutions.{IsBefore, IsFirst, Finds}
 use Rattle.family_names.specs.Functions.{functions_at, callable_by, callable_at}
 use Rattle.family_names.specs.Laws.{AreAlike, NamesAreJudgedOnce}
-use Rattle.family_names.specs.Names.{NameContext, truths_at, has_main, names_of, declared_by, declared_at, constants_of, variables_of, behind_main, values_of, test_count, is_among, each_once, is_kept, is_missed, is_met_again, is_met_unlike, is_uncallable, is_met_constant, constants_at, is_feature_name, is_feature, feature_in, named_feature, feature_of, is_integer, is_value, width_or_none, value_fault, full_fault, new_name_fault, function_fault, code_with, IsWithFirst, IsEither, IsUseFault, IsDeclarationFault, IsPrototypeFault, IsCallFault, IsNameFault, IsChangeOf, IsChangeFault, changed_place, IsThisOr, IsChangeOr, IsFaultFrom}
+use Rattle.family_names.specs.Names.{NameContext, truths_at, has_main, names_of, declared_by, declared_at, constants_of, variables_of, behind_main, values_of, test_count, is_among, each_once, is_kept, is_missed, is_met_again, is_met_unlike, is_uncallable, is_met_constant, constants_at, is_feature_name, is_feature, feature_in, named_feature, feature_of, is_integer, is_value, width_or_none, value_fault, full_fault, new_name_fault, function_fault, code_with, IsWithFirst, IsEither, is_used_behind, IsUseFault, IsDeclarationFault, IsPrototypeFault, IsCallFault, IsNameFault, IsChangeOf, IsChangeFault, changed_place, IsThisOr, IsChangeOr, IsFaultFrom}
 use Rattle.family_names.proofs.KindsBehind.{filter_same}
 
 -- ---- the first configuration
@@ -83,11 +85,6 @@ same_function a b s k =
     ap (λ (f : Bool). if f then Some FeatureInCode else None) (same_feature_name a.model b.model (ap (λ (p : Plain). p.features) s.models) (slice_get a.functions k)
     ∙ ap (λ (functions : List (List ℕ)). is_feature_name b.model (slice_get functions k)) s.functions)
 
-same_new : (a b : NameContext) → AreAlike a b → (before : List Item) (x : ℕ) → new_name_fault a before x ≡ new_name_fault b before x
-same_new a b s before x =
-    ap (λ (f : Bool). if f then Some FeatureInCode else (if is_among x (declared_by before) then None
-    else full_fault (is_constant (kind_after kinds.Variable before)) (length (constants_of before)) (length (variables_of before)))) (same_feature a b s x)
-
 same_named : (m n : Model) → m.features ≡ n.features → (o : Option (List ℕ)) → named_feature m o ≡ named_feature n o
 same_named m n e None = refl
 same_named m n e (Some name) = ap (λ (fs : List Feature). feature_in fs name) e
@@ -109,6 +106,13 @@ same_tests a b s (x ∷ xs) =
 same_values_of : (a b : NameContext) → AreAlike a b → (items : List Item) → values_of a items ≡ values_of b items
 same_values_of a b s items = ap (each_once []) (filter_same (is_value a) (is_value b) (names_of (behind_main items)) (λ x _. same_value_name a b s x))
 
+same_new : (a b : NameContext) → AreAlike a b → (before : List Item) (x : ℕ) → new_name_fault a before x ≡ new_name_fault b before x
+same_new a b s before x =
+    ap (λ (f : Bool). if f then Some FeatureInCode else (if is_among x (declared_by before) then None
+    else full_fault (is_constant (kind_after kinds.Variable before)) (length (constants_of before) + length (values_of a before)) (length (variables_of before)))) (same_feature a b s x)
+    ∙ ap (λ (ns : List ℕ). if is_feature b x then Some FeatureInCode else (if is_among x (declared_by before) then None
+    else full_fault (is_constant (kind_after kinds.Variable before)) (length (constants_of before) + length ns) (length (variables_of before)))) (same_values_of a b s before)
+
 same_value_fault : (a b : NameContext) → AreAlike a b → (before : List Item) (x : ℕ)
     → value_fault a (values_of a before) (length (constants_of before)) x ≡ value_fault b (values_of b before) (length (constants_of before)) x
 same_value_fault a b s before x =
@@ -118,7 +122,7 @@ same_value_fault a b s before x =
     (same_tests a b s (values_of b before ++ x ∷ []))
 
 same_missed : (a b : NameContext) → AreAlike a b → (before : List Item) (x : ℕ) (values : List ℤ) → is_missed a before x values ≡ is_missed b before x values
-same_missed a b s before x values = ap (λ (ts : List Bool). is_kept ts before && not (is_among x (declared_at ts before))) (s.truths values)
+same_missed a b s before x values = ap (λ (ts : List Bool). is_kept ts before && (is_in_own before x || not (is_among x (declared_at ts before)))) (s.truths values)
 
 same_met : (a b : NameContext) → AreAlike a b → (before : List Item) (x : ℕ) (values : List ℤ) → is_met_again a before x values ≡ is_met_again b before x values
 same_met a b s before x values = ap (λ (ts : List Bool). is_kept ts before && is_among x (declared_at ts before)) (s.truths values)
@@ -178,7 +182,7 @@ same_call a b s before k c d h i =
 
 same_code : (a b : NameContext) → AreAlike a b → (before : List Item) (sign : Sign) (c d : Option FileCode) → IsNameFault a before sign c → IsNameFault b before sign d → c ≡ d
 same_code a b s before (signs.Name x) c d h k =
-    either_same (IsUseFault a before x c) (IsDeclarationFault a before x c) (IsUseFault b before x d) (IsDeclarationFault b before x d) c d (has_main before) (has_main before) refl
+    either_same (IsUseFault a before x c) (IsDeclarationFault a before x c) (IsUseFault b before x d) (IsDeclarationFault b before x d) c d (is_used_behind before) (is_used_behind before) refl
     (same_use a b s before x c d) (same_declaration a b s before x c d) h k
 same_code a b s before (signs.Function n) c d h k =
     either_same (IsCallFault a before n c) (IsPrototypeFault a before n c) (IsCallFault b before n d) (IsPrototypeFault b before n d) c d (has_main before) (has_main before) refl

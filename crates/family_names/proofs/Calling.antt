@@ -1,16 +1,13 @@
 -- What is known of functions behind one item more, and their faults.
-use Rattle.std.proofs.Common.{◌≡◌, ℕ, ℤ, Bool, true, false, not, ◌&&◌, nat_eq, List, [], ◌∷◌, ◌++◌, Option, Some, None, refl, sym, ap, subst, ◌∙◌}
+use Rattle.std.proofs.Common.{◌≡◌, ℕ, Bool, true, false, not, ◌&&◌, nat_eq, List, [], ◌∷◌, ◌++◌, Option, Some, None, refl, sym, ap, subst, ◌∙◌}
 use Rattle.std.specs.Prelude.{◌||◌}
 use Rattle.std.proofs.lemmas.List.Folds.{list_any-append}
 use Rattle.fam_outer.specs.declared.faults.FileCode.{FileCode}
 use Rattle.fam_outer.specs.declared.faults.FileCode.TheVariants.{Undeclared, Twice}
-use Rattle.fam_outer.specs.declared.faults.Place.{Place}
 use Rattle.cpp_groups.specs.declared.section.Section.{Section}
 use Rattle.cpp_groups.specs.Kept.{all_kept}
 use Rattle.c_grammar.specs.declared.items.Item.{Item}
-use Rattle.c_grammar.specs.declared.items.Sign.TheVariants as signs
 use Rattle.c_grammar.specs.Functions.{is_void, is_equals, stands_behind}
-use Rattle.c_grammar.specs.Grammar.{at}
 use Rattle.linear_atoms.specs.declared.atoms.Config.{Config}
 use Rattle.atom_solver.specs.Solutions.{Finds}
 use Rattle.family_names.specs.declared.declarations.Declaration.{Declaration}

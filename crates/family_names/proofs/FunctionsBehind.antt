@@ -1,6 +1,6 @@
 -- Which functions are declared behind one item more.
-use Rattle.std.proofs.Common.{◌≡◌, ℕ, Bool, true, false, not, ◌&&◌, nat_eq, List, [], ◌∷◌, ◌++◌, Option, Some, None, refl, sym, ap, subst, ◌∙◌, append_assoc, append-nil, inl, inr}
-use Rattle.std.specs.Prelude.{◌||◌, ◌⊎◌, if◌then◌else◌}
+use Rattle.std.proofs.Common.{◌≡◌, ℕ, Bool, true, false, not, ◌&&◌, nat_eq, List, [], ◌∷◌, ◌++◌, Option, Some, None, refl, sym, ap, subst, ◌∙◌, append_assoc, append-nil}
+use Rattle.std.specs.Prelude.{◌||◌, if◌then◌else◌}
 use Rattle.std.proofs.lemmas.List.Folds.{list_any-append}
 use Rattle.fam_outer.specs.declared.faults.Place.{Place}
 use Rattle.cpp_groups.specs.declared.section.Section.{Section}
@@ -14,7 +14,30 @@ use Rattle.c_grammar.specs.Grammar.{at, is_group}
 use Rattle.c_grammar.specs.Kept.{directive_of, kept, kept_from}
 use Rattle.family_names.specs.Functions.{functions_by, functions_at}
 use Rattle.family_names.specs.Names.{is_main, has_main, until_main, is_among, sections_behind, is_kept}
-use Rattle.family_names.proofs.Declared.{kept_append, until_behind, until_on, until_all, or_false, and_true, and_false}
+use Rattle.family_names.proofs.Declared.{kept_append, or_false, and_true, and_false}
+
+-- ---- `main`
+
+-- behind `main` no function is declared
+until_behind : (before xs : List Item) → has_main before ≡ true → until_main (before ++ xs) ≡ until_main before
+until_behind [] xs h = absurd cc
+until_behind (y ∷ ys) xs h =
+    elim (is_main y.sign) as (λ b. (b || has_main ys) ≡ true → (if b then [] else y ∷ until_main (ys ++ xs)) ≡ (if b then [] else y ∷ until_main ys)) [
+      | true ↦ λ _. refl
+      | false ↦ λ g. ap (λ (zs : List Item). y ∷ zs) (until_behind ys xs g)
+    ] h
+
+-- before it each one is
+until_on : (before xs : List Item) → has_main before ≡ false → until_main (before ++ xs) ≡ before ++ until_main xs
+until_on [] xs h = refl
+until_on (y ∷ ys) xs h =
+    elim (is_main y.sign) as (λ b. (b || has_main ys) ≡ false → (if b then [] else y ∷ until_main (ys ++ xs)) ≡ y ∷ ys ++ until_main xs) [
+      | true ↦ λ g. absurd cc
+      | false ↦ λ g. ap (λ (zs : List Item). y ∷ zs) (until_on ys xs g)
+    ] h
+
+until_all : (before : List Item) → has_main before ≡ false → until_main before ≡ before
+until_all before h = ap until_main (sym (append-nil before)) ∙ until_on before [] h ∙ append-nil before
 
 -- ---- the items without the functions that are declared otherwise
 

@@ -13,20 +13,24 @@ use Rattle.c_grammar.specs.declared.constants.NameKind.TheVariants as kinds
 use Rattle.c_grammar.specs.declared.items.Item.{Item}
 use Rattle.c_grammar.specs.declared.items.Sign.{Sign}
 use Rattle.c_grammar.specs.declared.items.Sign.TheVariants as signs
-use Rattle.c_grammar.specs.Constants.{is_name, is_constant, kind_behind, kind_after, constants_from, of_constants, changed_at, IsTrack}
+use Rattle.c_grammar.specs.Changes.{changed_at, IsTrack}
+use Rattle.c_grammar.specs.Constants.{is_name, is_constant, kind_behind, kind_after, constants_from, of_constants}
+use Rattle.c_grammar.specs.Functions.{has_sign}
 use Rattle.c_grammar.specs.Grammar.{at}
 use Rattle.c_grammar.specs.Kept.{directive_of}
+use Rattle.c_grammar.specs.Locals.{is_declaring, declares_behind}
+use Rattle.c_grammar.proofs.Declaring.{last_of_constants}
 use Rattle.family_names.specs.declared.constants.Constants.{Constants}
 use Rattle.family_names.specs.declared.declarations.Declaration.{Declaration}
 use Rattle.family_names.specs.declared.faults.Seen.{Seen}
 use Rattle.family_names.specs.declared.groups.Group.{Group}
 use Rattle.family_names.specs.Declarations.{is_declared, has_one}
 use Rattle.family_names.specs.Groups.{sections, are_kept}
-use Rattle.family_names.specs.Names.{NameContext, truths_at, is_main, has_main, name_of, declared_at, constants_at, is_among, sections_behind, is_kept, is_value, is_met_constant, code_with, IsEither, IsChangeOf, IsChangeFault, place_or}
+use Rattle.family_names.specs.Names.{NameContext, truths_at, is_main, has_main, name_of, declared_at, constants_at, is_among, sections_behind, is_kept, is_value, is_met_constant, code_with, IsEither, is_used_behind, IsChangeOf, IsChangeFault, place_or}
 use Rattle.family_names.specs.Judging as judging
 use Rattle.family_names.specs.Judging.{IsSeen, AreHeld, IsChange, with_constant}
 use Rattle.family_names.proofs.Answering.{found_same}
-use Rattle.family_names.proofs.Declared.{still_behind, still_main, still_other, one_more}
+use Rattle.family_names.proofs.Declared.{still_used, still_other, one_more}
 
 -- ---- the items without the names of variables
 
@@ -62,6 +66,12 @@ from_sections truths ss kind (y ∷ ys) =
       | false ↦ λ e. from_sections truths ss (kind_behind kind y.sign) ys ∙ sym (ap (λ (s : Sign). sections_behind truths (sections_after truths ss (directive_of s)) ys) (left_out (is_constant kind) y.sign e).1)
     ] refl
 
+-- where a constant's name comes next, it is used behind them if it is used behind all items
+used_same : (before : List Item) → is_constant (kind_after kinds.Variable before) ≡ true → is_used_behind (of_constants before) ≡ is_used_behind before
+used_same before c =
+    ap (λ (b : Bool). b && not (declares_behind (of_constants before))) (from_main kinds.Variable before)
+    ∙ ap (λ (o : Option Item). has_main before && not (has_sign is_declaring o)) (last_of_constants before c)
+
 -- ---- an item more
 
 -- the sign is a name or names nothing
@@ -85,32 +95,33 @@ Tells ds items = (truths : List Bool) (y : ℕ) → is_declared truths ds y ≡ 
 
 -- an item that names nothing
 nothing_more : (before : List Item) (x : Item) (ds : List Declaration) → NamesNothing x.sign → Tells ds before → Tells ds (before ++ x ∷ [])
-nothing_more before x ds n h truths y = elim (is_main x.sign) as (λ b. is_main x.sign ≡ b → is_declared truths ds y ≡ is_among y (declared_at truths (before ++ x ∷ []))) [
-  | true ↦ λ e. h truths y ∙ ap (is_among y) (sym ((still_main before x e).kept truths))
-  | false ↦ λ e. h truths y ∙ ap (is_among y) (sym ((still_other before x e n.no_name).kept truths))
-] refl
+nothing_more before x ds n h truths y = h truths y ∙ ap (is_among y) (sym ((still_other before x n.no_name).kept truths))
+
+-- a constant's name, which is used or declared
+constant_more : (before : List Item) (p : Place) (n : ℕ) (ds : List Declaration) (groups : List Group) (used : Bool) → is_used_behind before ≡ used → ((truths : List Bool) → sections truths groups ≡ sections_behind truths [] before) → Tells ds before
+    → Tells (with_constant ds (not used) groups (signs.Name n)) (before ++ at p (signs.Name n) ∷ [])
+constant_more before p n ds groups true u same h truths y = h truths y ∙ ap (is_among y) (sym ((still_used before p n u).kept truths))
+constant_more before p n ds groups false u same h truths y = one_more before p n ds groups u same h truths y
 
 -- a name, a constant's or not
-name_more : (before : List Item) (p : Place) (n : ℕ) (ds : List Declaration) (groups : List Group) (kind : NameKind) (main : Bool) → has_main before ≡ main → ((truths : List Bool) → sections truths groups ≡ sections_behind truths [] before) → Tells ds before
-    → Tells (with_constant ds (is_constant kind && not main) groups (signs.Name n)) (before ++ constants_from kind (at p (signs.Name n) ∷ []))
-name_more before p n ds groups kinds.Constant true m same h truths y = h truths y ∙ ap (is_among y) (sym ((still_behind before (at p (signs.Name n)) m).kept truths))
-name_more before p n ds groups kinds.Constant false m same h truths y = one_more before p n ds groups m same h truths y
-name_more before p n ds groups kinds.Defined true m same h truths y = h truths y ∙ ap (is_among y) (sym ((still_behind before (at p (signs.Name n)) m).kept truths))
-name_more before p n ds groups kinds.Defined false m same h truths y = one_more before p n ds groups m same h truths y
-name_more before p n ds groups kinds.Variable main m same h truths y = h truths y ∙ ap (λ (ys : List Item). is_among y (declared_at truths ys)) (sym (append-nil before))
+name_more : (before : List Item) (p : Place) (n : ℕ) (ds : List Declaration) (groups : List Group) (kind : NameKind) (used : Bool) → (is_constant kind ≡ true → is_used_behind before ≡ used) → ((truths : List Bool) → sections truths groups ≡ sections_behind truths [] before) → Tells ds before
+    → Tells (with_constant ds (is_constant kind && not used) groups (signs.Name n)) (before ++ constants_from kind (at p (signs.Name n) ∷ []))
+name_more before p n ds groups kinds.Constant used u same h truths y = constant_more before p n ds groups used (u refl) same h truths y
+name_more before p n ds groups kinds.Defined used u same h truths y = constant_more before p n ds groups used (u refl) same h truths y
+name_more before p n ds groups kinds.Variable used u same h truths y = h truths y ∙ ap (λ (ys : List Item). is_among y (declared_at truths ys)) (sym (append-nil before))
 
 pub kept_in : (kind : NameKind) (x : Item) (xs : List Item) → is_name x.sign ≡ false → constants_from kind (x ∷ xs) ≡ x ∷ constants_from (kind_behind kind x.sign) xs
 kept_in kinds.Constant x xs e = refl
 kept_in kinds.Defined x xs e = refl
 kept_in kinds.Variable x xs e = ap (λ (t : Bool). if not t then x ∷ constants_from (kind_behind kinds.Variable x.sign) xs else constants_from (kind_behind kinds.Variable x.sign) xs) e
 
-item_more : (before : List Item) (x : Item) (ds : List Declaration) (groups : List Group) (kind : NameKind) (main : Bool) → has_main before ≡ main → ((truths : List Bool) → sections truths groups ≡ sections_behind truths [] before) → Tells ds before
-    → Tells (with_constant ds (is_constant kind && not main) groups x.sign) (before ++ constants_from kind (x ∷ []))
-item_more before x ds groups kind main m same h = elim (name_or_nothing x.sign) [
-  | inl e ↦ subst (λ (y : Item). Tells (with_constant ds (is_constant kind && not main) groups y.sign) (before ++ constants_from kind (y ∷ [])))
-      (ap (λ (s : Sign). at x.place s) (sym e.1)) (name_more before x.place e.0 ds groups kind main m same h)
+item_more : (before : List Item) (x : Item) (ds : List Declaration) (groups : List Group) (kind : NameKind) (used : Bool) → (is_constant kind ≡ true → is_used_behind before ≡ used) → ((truths : List Bool) → sections truths groups ≡ sections_behind truths [] before) → Tells ds before
+    → Tells (with_constant ds (is_constant kind && not used) groups x.sign) (before ++ constants_from kind (x ∷ []))
+item_more before x ds groups kind used u same h = elim (name_or_nothing x.sign) [
+  | inl e ↦ subst (λ (y : Item). Tells (with_constant ds (is_constant kind && not used) groups y.sign) (before ++ constants_from kind (y ∷ [])))
+      (ap (λ (s : Sign). at x.place s) (sym e.1)) (name_more before x.place e.0 ds groups kind used u same h)
   | inr n ↦ λ truths y.
-      ap (λ (es : List Declaration). is_declared truths es y) (n.adds_none ds (is_constant kind && not main) groups)
+      ap (λ (es : List Declaration). is_declared truths es y) (n.adds_none ds (is_constant kind && not used) groups)
       ∙ nothing_more before x ds n h truths y
       ∙ ap (λ (ys : List Item). is_among y (declared_at truths (before ++ ys))) (sym (kept_in kind x [] n.other))
 ]
@@ -122,19 +133,19 @@ is_asked a b c e h = h ∙ sym (ap (λ (t : Bool). t && not b) e)
 pub is_not_asked : (a b c : Bool) → a ≡ false → c ≡ a → c ≡ (a && not b)
 is_not_asked a b c e h = h ∙ e ∙ sym (ap (λ (t : Bool). t && not b) e)
 
-pub held_more : (before : List Item) (x : Item) (old new : Constants) (seen : Seen) (constant : Bool) → IsSeen before seen → AreHeld before old → IsTrack (before ++ x ∷ []) new.track → constant ≡ is_constant (kind_after kinds.Variable before)
-    → new.declarations.items ≡ with_constant old.declarations.items (constant && not seen.in_main) seen.groups x.sign → AreHeld (before ++ x ∷ []) new
-held_more before x old new seen constant k h track is declarations =
+pub held_more : (before : List Item) (x : Item) (old new : Constants) (seen : Seen) (constant used : Bool) → IsSeen before seen → AreHeld before old → IsTrack (before ++ x ∷ []) new.track → constant ≡ is_constant (kind_after kinds.Variable before) → used ≡ is_used_behind before
+    → new.declarations.items ≡ with_constant old.declarations.items (constant && not used) seen.groups x.sign → AreHeld (before ++ x ∷ []) new
+held_more before x old new seen constant used k h track is is_used declarations =
     let kind : NameKind = kind_after kinds.Variable before in
-    let more : Tells (with_constant old.declarations.items (is_constant kind && not (has_main before)) seen.groups x.sign) (of_constants before ++ constants_from kind (x ∷ [])) =
-    item_more (of_constants before) x old.declarations.items seen.groups kind (has_main before) (from_main kinds.Variable before)
+    let more : Tells (with_constant old.declarations.items (is_constant kind && not (is_used_behind before)) seen.groups x.sign) (of_constants before ++ constants_from kind (x ∷ [])) =
+    item_more (of_constants before) x old.declarations.items seen.groups kind (is_used_behind before) (used_same before)
     (λ truths. k.groups truths ∙ sym (from_sections truths [] kinds.Variable before)) h.declarations in
     record {
       track = track;
       declarations = λ truths y.
           ap (λ (ds : List Declaration). is_declared truths ds y)
-          (declarations ∙ ap (λ (b : Bool). with_constant old.declarations.items (b && not seen.in_main) seen.groups x.sign) is
-          ∙ ap (λ (b : Bool). with_constant old.declarations.items (is_constant kind && not b) seen.groups x.sign) k.main)
+          (declarations ∙ ap (λ (b : Bool). with_constant old.declarations.items (b && not used) seen.groups x.sign) is
+          ∙ ap (λ (b : Bool). with_constant old.declarations.items (is_constant kind && not b) seen.groups x.sign) is_used)
           ∙ more truths y
           ∙ ap (λ (ys : List Item). is_among y (declared_at truths ys)) (sym (from_more kinds.Variable before x));
     }

@@ -1,5 +1,5 @@
 -- The names of constants and variables, and the features that are used as values, behind one item more.
-use Rattle.std.proofs.Common.{◌≡◌, ℕ, Bool, true, false, cond, not, ◌&&◌, nat_eq, List, [], ◌∷◌, ◌++◌, refl, sym, ap, ◌∙◌, append_assoc, append-nil}
+use Rattle.std.proofs.Common.{◌≡◌, ℕ, Bool, true, false, cond, not, ◌&&◌, nat_eq, List, [], ◌∷◌, ◌++◌, Option, Some, None, refl, sym, ap, ◌∙◌, append_assoc, append-nil}
 use Rattle.std.specs.Prelude.{◌||◌, if◌then◌else◌}
 use Rattle.std.specs.List.{list_any, filter}
 use Rattle.std.proofs.lemmas.Bool.{eq-eqb}
@@ -11,33 +11,35 @@ use Rattle.c_grammar.specs.declared.constants.NameKind.TheVariants as kinds
 use Rattle.c_grammar.specs.declared.items.Item.{Item}
 use Rattle.c_grammar.specs.declared.items.Sign.{Sign}
 use Rattle.c_grammar.specs.declared.items.Sign.TheVariants as signs
-use Rattle.c_grammar.specs.Constants.{is_constant, kind_behind, kind_after}
+use Rattle.c_grammar.specs.Constants.{is_name, is_constant, kind_behind, kind_after, last_from}
+use Rattle.c_grammar.specs.Functions.{has_sign}
 use Rattle.c_grammar.specs.Grammar.{at}
 use Rattle.c_grammar.specs.Kinds.{name_as, kinds_from, declared_kinds, is_first_constant, is_declared_constant}
+use Rattle.c_grammar.specs.Locals.{is_declaring, declarations_from}
 use Rattle.family_names.specs.declared.values.Used.{Used}
-use Rattle.family_names.specs.Names.{NameContext, is_main, has_main, until_main, name_of, names_of, declared_by, constants_of, variables_of, is_value, behind_main, values_of, is_among, with_number, each_once}
+use Rattle.family_names.specs.Names.{NameContext, is_main, has_main, name_of, names_of, declared_by, constants_of, variables_of, is_value, behind_main, values_of, is_among, with_number, each_once, is_used_behind}
 use Rattle.family_names.specs.Judging.{AreUsed, with_kind}
-use Rattle.family_names.proofs.Declared.{names_append, AreStill, more_declared, once_append, among_once, and_false, or_left, or_right}
+use Rattle.family_names.proofs.Declared.{names_append, or_assoc, or_false, AreStill, more_named, once_append, among_once, and_false, or_left, or_right}
 
 -- ---- the kinds of declared names
 
-kinds_behind : (kind : NameKind) (before xs : List Item) → has_main before ≡ true → kinds_from kind (before ++ xs) ≡ kinds_from kind before
-kinds_behind kind [] xs h = absurd cc
-kinds_behind kind (y ∷ ys) xs h =
-    elim (is_main y.sign) as (λ b. (b || has_main ys) ≡ true → (if b then [] else name_as (is_constant kind) y.sign ++ kinds_from (kind_behind kind y.sign) (ys ++ xs)) ≡ (if b then [] else name_as (is_constant kind) y.sign ++ kinds_from (kind_behind kind y.sign) ys)) [
-      | true ↦ λ _. refl
-      | false ↦ λ g. ap (λ (ds : List (ℕ × Bool)). name_as (is_constant kind) y.sign ++ ds) (kinds_behind (kind_behind kind y.sign) ys xs g)
-    ] h
+kinds_on : (main : Bool) (last : Option Item) (kind : NameKind) (before xs : List Item) → kinds_from main (has_sign is_declaring last) kind (before ++ xs)
+    ≡ kinds_from main (has_sign is_declaring last) kind before ++ kinds_from (main || has_main before) (has_sign is_declaring (last_from last before)) (kind_after kind before) xs
+kinds_on main last kind [] xs = ap (λ (b : Bool). kinds_from b (has_sign is_declaring last) kind xs) (sym (or_false main))
+kinds_on main last kind (y ∷ ys) xs =
+    let m : Bool = main || is_main y.sign in
+    let k : NameKind = kind_behind kind y.sign in
+    let d : Bool = has_sign is_declaring (last_from (Some y) ys) in
+    let this : List (ℕ × Bool) = if main && not (has_sign is_declaring last) then [] else name_as (is_constant kind) y.sign in
+    let front : List (ℕ × Bool) = kinds_from m (is_declaring y.sign) k ys in
+    ap (λ (ds : List (ℕ × Bool)). this ++ ds) (kinds_on m (Some y) k ys xs ∙ ap (λ (b : Bool). front ++ kinds_from b d (kind_after k ys) xs) (or_assoc main (is_main y.sign) (has_main ys)))
+    ∙ sym (append_assoc this front (kinds_from (main || (is_main y.sign || has_main ys)) d (kind_after k ys) xs))
 
-kinds_on : (kind : NameKind) (before xs : List Item) → has_main before ≡ false → kinds_from kind (before ++ xs) ≡ kinds_from kind before ++ kinds_from (kind_after kind before) xs
-kinds_on kind [] xs h = refl
-kinds_on kind (y ∷ ys) xs h =
-    elim (is_main y.sign) as (λ b. (b || has_main ys) ≡ false → (if b then [] else name_as (is_constant kind) y.sign ++ kinds_from (kind_behind kind y.sign) (ys ++ xs))
-    ≡ (if b then [] else name_as (is_constant kind) y.sign ++ kinds_from (kind_behind kind y.sign) ys) ++ kinds_from (kind_after (kind_behind kind y.sign) ys) xs) [
-      | true ↦ λ g. absurd cc
-      | false ↦ λ g. ap (λ (ds : List (ℕ × Bool)). name_as (is_constant kind) y.sign ++ ds) (kinds_on (kind_behind kind y.sign) ys xs g)
-          ∙ sym (append_assoc (name_as (is_constant kind) y.sign) (kinds_from (kind_behind kind y.sign) ys) (kinds_from (kind_after (kind_behind kind y.sign) ys) xs))
-    ] h
+-- the kind of an item more, unless it is used
+kinds_more : (before : List Item) (x : Item) → declared_kinds (before ++ x ∷ []) ≡ declared_kinds before ++ (if is_used_behind before then [] else name_as (is_constant (kind_after kinds.Variable before)) x.sign)
+kinds_more before x =
+    kinds_on false None kinds.Variable before (x ∷ [])
+    ∙ ap (λ (ds : List (ℕ × Bool)). declared_kinds before ++ ds) (append-nil (if is_used_behind before then [] else name_as (is_constant (kind_after kinds.Variable before)) x.sign))
 
 -- one of these declarations has the name
 abbrev has_kind : ℕ → List (ℕ × Bool) → Bool
@@ -47,15 +49,23 @@ kind_of_name : (x : ℕ) (constant : Bool) (s : Sign) → has_kind x (name_as co
 kind_of_name x constant (signs.Name n) = refl
 kind_of_name x constant _ = refl
 
-has_name : (x : ℕ) (kind : NameKind) (items : List Item) → has_kind x (kinds_from kind items) ≡ is_among x (names_of (until_main items))
-has_name x kind [] = refl
-has_name x kind (y ∷ ys) =
-    elim (is_main y.sign) as (λ b. has_kind x (if b then [] else name_as (is_constant kind) y.sign ++ kinds_from (kind_behind kind y.sign) ys) ≡ is_among x (names_of (if b then [] else y ∷ until_main ys))) [
-      | true ↦ refl
-      | false ↦ list_any-append (λ (d : ℕ × Bool). nat_eq x d.0) (name_as (is_constant kind) y.sign) (kinds_from (kind_behind kind y.sign) ys)
-          ∙ ap (λ (b : Bool). b || has_kind x (kinds_from (kind_behind kind y.sign) ys)) (kind_of_name x (is_constant kind) y.sign)
-          ∙ ap (λ (b : Bool). is_among x (name_of y.sign) || b) (has_name x (kind_behind kind y.sign) ys)
-          ∙ sym (list_any-append (nat_eq x) (name_of y.sign) (names_of (until_main ys)))
+no_name : (s : Sign) (p : Place) (rest : List Item) → names_of (if is_name s then rest else at p s ∷ rest) ≡ names_of rest
+no_name (signs.Name n) p rest = refl
+no_name _ p rest = refl
+
+has_name : (x : ℕ) (main declaring : Bool) (kind : NameKind) (items : List Item) → has_kind x (kinds_from main declaring kind items) ≡ is_among x (names_of (declarations_from main declaring items))
+has_name x main declaring kind [] = refl
+has_name x main declaring kind (y ∷ ys) =
+    let m = main || is_main y.sign in
+    let d = is_declaring y.sign in
+    let k = kind_behind kind y.sign in
+    elim (main && not declaring) as (λ b. has_kind x ((if b then [] else name_as (is_constant kind) y.sign) ++ kinds_from (main || is_main y.sign) (is_declaring y.sign) (kind_behind kind y.sign) ys)
+    ≡ is_among x (names_of (if b && is_name y.sign then declarations_from (main || is_main y.sign) (is_declaring y.sign) ys else y ∷ declarations_from (main || is_main y.sign) (is_declaring y.sign) ys))) [
+      | true ↦ has_name x m d k ys ∙ ap (is_among x) (sym (no_name y.sign y.place (declarations_from m d ys)))
+      | false ↦ list_any-append (λ (e : ℕ × Bool). nat_eq x e.0) (name_as (is_constant kind) y.sign) (kinds_from m d k ys)
+          ∙ ap (λ (b : Bool). b || has_kind x (kinds_from m d k ys)) (kind_of_name x (is_constant kind) y.sign)
+          ∙ ap (λ (b : Bool). is_among x (name_of y.sign) || b) (has_name x m d k ys)
+          ∙ sym (list_any-append (nat_eq x) (name_of y.sign) (names_of (declarations_from m d ys)))
     ]
 
 first_stays : (x : ℕ) (ds es : List (ℕ × Bool)) → has_kind x ds ≡ true → is_first_constant (ds ++ es) x ≡ is_first_constant ds x
@@ -74,19 +84,18 @@ first_behind x (d ∷ ds) es h = elim (nat_eq x d.0) as (λ b. (b || has_kind x 
 
 -- the kind of a name that is declared stays
 kind_stays : (before : List Item) (x : Item) (y : ℕ) → is_among y (declared_by before) ≡ true → is_declared_constant (before ++ x ∷ []) y ≡ is_declared_constant before y
-kind_stays before x y h = elim (has_main before) as (λ b. has_main before ≡ b → is_declared_constant (before ++ x ∷ []) y ≡ is_declared_constant before y) [
-  | true ↦ λ m. ap (λ (ds : List (ℕ × Bool)). is_first_constant ds y) (kinds_behind kinds.Variable before (x ∷ []) m)
-  | false ↦ λ m. ap (λ (ds : List (ℕ × Bool)). is_first_constant ds y) (kinds_on kinds.Variable before (x ∷ []) m)
-      ∙ first_stays y (declared_kinds before) (kinds_from (kind_after kinds.Variable before) (x ∷ [])) (has_name y kinds.Variable before ∙ h)
-] refl
+kind_stays before x y h =
+    ap (λ (ds : List (ℕ × Bool)). is_first_constant ds y) (kinds_more before x)
+    ∙ first_stays y (declared_kinds before) (if is_used_behind before then [] else name_as (is_constant (kind_after kinds.Variable before)) x.sign) (has_name y false false kinds.Variable before ∙ h)
 
 -- the kind of a new name
-kind_is : (before : List Item) (p : Place) (n : ℕ) → has_main before ≡ false → is_among n (declared_by before) ≡ false
+kind_is : (before : List Item) (p : Place) (n : ℕ) → is_used_behind before ≡ false → is_among n (declared_by before) ≡ false
     → is_declared_constant (before ++ at p (signs.Name n) ∷ []) n ≡ is_constant (kind_after kinds.Variable before)
-kind_is before p n m h =
-    ap (λ (ds : List (ℕ × Bool)). is_first_constant ds n) (kinds_on kinds.Variable before (at p (signs.Name n) ∷ []) m)
-    ∙ first_behind n (declared_kinds before) (kinds_from (kind_after kinds.Variable before) (at p (signs.Name n) ∷ [])) (has_name n kinds.Variable before ∙ h)
-    ∙ ap (λ (b : Bool). if b then is_constant (kind_after kinds.Variable before) else false) (eq-eqb n n refl)
+kind_is before p n u h =
+    let constant = is_constant (kind_after kinds.Variable before) in
+    ap (λ (ds : List (ℕ × Bool)). is_first_constant ds n) (kinds_more before (at p (signs.Name n)) ∙ ap (λ (b : Bool). declared_kinds before ++ (if b then [] else (n, constant) ∷ [])) u)
+    ∙ first_behind n (declared_kinds before) ((n, constant) ∷ []) (has_name n false false kinds.Variable before ∙ h)
+    ∙ ap (λ (b : Bool). if b then constant else false) (eq-eqb n n refl)
 
 -- ---- the names of a kind
 
@@ -114,20 +123,20 @@ with_one : (b : Bool) (others : List ℕ) (n : ℕ) → others ++ cond b (n ∷ 
 with_one true others n = refl
 with_one false others n = append-nil others
 
-one_kind : (f : Bool → Bool) (before : List Item) (p : Place) (n : ℕ) → has_main before ≡ false
+one_kind : (f : Bool → Bool) (before : List Item) (p : Place) (n : ℕ) → is_used_behind before ≡ false
     → of_kind f (before ++ at p (signs.Name n) ∷ []) ≡ with_kind (f (is_constant (kind_after kinds.Variable before))) (each_once [] (declared_by before)) (of_kind f before) n
-one_kind f before p n m =
+one_kind f before p n u =
     let after : List Item = before ++ at p (signs.Name n) ∷ [] in
     let names : List ℕ = each_once [] (declared_by before) in
     let test : ℕ → Bool = λ y. f (is_declared_constant after y) in
     let b : Bool = f (is_constant (kind_after kinds.Variable before)) in
-    ap (λ (ns : List ℕ). filter test (each_once [] ns)) ((more_declared before (at p (signs.Name n)) m refl).any) ∙ ap (filter test) (once_append [] (declared_by before) (n ∷ []))
+    ap (λ (ns : List ℕ). filter test (each_once [] ns)) ((more_named before p n u).any) ∙ ap (filter test) (once_append [] (declared_by before) (n ∷ []))
     ∙ elim (is_among n names) as (λ t. is_among n names ≡ t → filter test (if t then names else names ++ n ∷ []) ≡ (if b && not t then of_kind f before ++ n ∷ [] else of_kind f before)) [
       | true ↦ λ _. kept_kind f before (at p (signs.Name n)) ∙ sym (ap (λ (c : Bool). if c then of_kind f before ++ n ∷ [] else of_kind f before) (and_false b))
       | false ↦ λ e.
           filter-append test names (n ∷ [])
           ∙ ap (λ (ns : List ℕ). ns ++ cond (test n) (n ∷ []) []) (kept_kind f before (at p (signs.Name n)))
-          ∙ ap (λ (c : Bool). of_kind f before ++ cond (f c) (n ∷ []) []) (kind_is before p n m (sym (among_once n [] (declared_by before)) ∙ e))
+          ∙ ap (λ (c : Bool). of_kind f before ++ cond (f c) (n ∷ []) []) (kind_is before p n u (sym (among_once n [] (declared_by before)) ∙ e))
           ∙ with_one b (of_kind f before) n
     ] refl
 
@@ -137,13 +146,13 @@ still_constants before x s = still_kind (λ b. b) before x s
 pub still_variables : (before : List Item) (x : Item) → AreStill before x → variables_of (before ++ x ∷ []) ≡ variables_of before
 still_variables before x s = still_kind not before x s
 
-pub more_constants : (before : List Item) (p : Place) (n : ℕ) → has_main before ≡ false
+pub more_constants : (before : List Item) (p : Place) (n : ℕ) → is_used_behind before ≡ false
     → constants_of (before ++ at p (signs.Name n) ∷ []) ≡ with_kind (is_constant (kind_after kinds.Variable before)) (each_once [] (declared_by before)) (constants_of before) n
-more_constants before p n m = one_kind (λ b. b) before p n m
+more_constants before p n u = one_kind (λ b. b) before p n u
 
-pub more_variables : (before : List Item) (p : Place) (n : ℕ) → has_main before ≡ false
+pub more_variables : (before : List Item) (p : Place) (n : ℕ) → is_used_behind before ≡ false
     → variables_of (before ++ at p (signs.Name n) ∷ []) ≡ with_kind (not (is_constant (kind_after kinds.Variable before))) (each_once [] (declared_by before)) (variables_of before) n
-more_variables before p n m = one_kind not before p n m
+more_variables before p n u = one_kind not before p n u
 
 -- ---- features that are used as values
 
@@ -189,12 +198,19 @@ still_values context before x e = elim (has_main before) as (λ b. has_main befo
   | false ↦ λ h. still_unused context before x h
 ] refl
 
--- a name is used
+-- a name stands in `main`
 pub value_more : (context : NameContext) (before : List Item) (p : Place) (n : ℕ) → has_main before ≡ true
     → values_of context (before ++ at p (signs.Name n) ∷ []) ≡ (if is_value context n then with_number (values_of context before) n else values_of context before)
 value_more context before p n h =
     one_value context before (at p (signs.Name n)) h
     ∙ elim (is_value context n) as (λ b. each_once (values_of context before) (cond b (n ∷ []) []) ≡ (if b then with_number (values_of context before) n else values_of context before)) [ true ↦ refl | false ↦ refl ]
+
+-- a name that is no value's, wherever it stands
+pub still_valued : (context : NameContext) (before : List Item) (p : Place) (n : ℕ) → is_value context n ≡ false → values_of context (before ++ at p (signs.Name n) ∷ []) ≡ values_of context before
+still_valued context before p n v = elim (has_main before) as (λ b. has_main before ≡ b → values_of context (before ++ at p (signs.Name n) ∷ []) ≡ values_of context before) [
+  | true ↦ λ h. value_more context before p n h ∙ ap (λ (b : Bool). if b then with_number (values_of context before) n else values_of context before) v
+  | false ↦ λ h. still_unused context before (at p (signs.Name n)) h
+] refl
 
 used_same : (context : NameContext) (before after : List Item) (used : Used) → values_of context after ≡ values_of context before → AreUsed context before used → AreUsed context after used
 used_same context before after used e u = record { names = u.names ∙ sym e; tests = u.tests }
@@ -202,13 +218,8 @@ used_same context before after used e u = record { names = u.names ∙ sym e; te
 pub used_unnamed : (context : NameContext) (before : List Item) (x : Item) (used : Used) → name_of x.sign ≡ [] → AreUsed context before used → AreUsed context (before ++ x ∷ []) used
 used_unnamed context before x used e u = used_same context before (before ++ x ∷ []) used (still_values context before x e) u
 
-pub used_declared : (context : NameContext) (before : List Item) (x : Item) (used : Used) → has_main before ≡ false → AreUsed context before used → AreUsed context (before ++ x ∷ []) used
-used_declared context before x used h u = used_same context before (before ++ x ∷ []) used (still_unused context before x h) u
-
-pub used_other : (context : NameContext) (before : List Item) (p : Place) (n : ℕ) (used : Used) → has_main before ≡ true → is_value context n ≡ false → AreUsed context before used → AreUsed context (before ++ at p (signs.Name n) ∷ []) used
-used_other context before p n used h v u =
-    used_same context before (before ++ at p (signs.Name n) ∷ []) used
-    (value_more context before p n h ∙ ap (λ (b : Bool). if b then with_number (values_of context before) n else values_of context before) v) u
+pub used_other : (context : NameContext) (before : List Item) (p : Place) (n : ℕ) (used : Used) → is_value context n ≡ false → AreUsed context before used → AreUsed context (before ++ at p (signs.Name n) ∷ []) used
+used_other context before p n used v u = used_same context before (before ++ at p (signs.Name n) ∷ []) used (still_valued context before p n v) u
 
 pub used_names : (context : NameContext) (before : List Item) (p : Place) (n : ℕ) → has_main before ≡ true → is_value context n ≡ true → values_of context (before ++ at p (signs.Name n) ∷ []) ≡ with_number (values_of context before) n
 used_names context before p n h v = value_more context before p n h ∙ ap (λ (b : Bool). if b then with_number (values_of context before) n else values_of context before) v

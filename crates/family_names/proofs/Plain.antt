@@ -10,11 +10,13 @@ use Rattle.cpp_groups.specs.declared.section.Section.{Section}
 use Rattle.c_grammar.specs.declared.items.Item.{Item}
 use Rattle.c_grammar.specs.declared.items.Sign.{Sign}
 use Rattle.c_grammar.specs.declared.items.Sign.TheVariants as signs
+use Rattle.c_grammar.specs.Constants.{is_name}
 use Rattle.c_grammar.specs.Grammar.{is_group}
 use Rattle.c_grammar.specs.Kept.{directive_of, kept_from}
+use Rattle.c_grammar.specs.Locals.{is_declaring, declarations_from, of_declarations, is_in_own}
 use Rattle.atom_solver.specs.Solutions.{Finds}
-use Rattle.family_names.specs.Names.{NameContext, truths_at, has_main, until_main, names_of, is_main, declared_by, declared_at, constants_of, values_of, is_among, sections_behind, is_kept, is_missed, is_met_again, is_feature, is_value, value_fault, new_name_fault, IsWithFirst, IsEither, IsUseFault, IsDeclarationFault, code_with}
-use Rattle.family_names.specs.Laws.{has_groups, plain_use_fault, PlainNames}
+use Rattle.family_names.specs.Names.{NameContext, truths_at, names_of, is_main, declared_by, declared_at, constants_of, values_of, is_among, sections_behind, is_kept, is_missed, is_met_again, is_feature, is_value, value_fault, new_name_fault, IsWithFirst, IsEither, is_used_behind, IsUseFault, IsDeclarationFault, code_with}
+use Rattle.family_names.specs.Laws.{has_groups, IsPlainUseFault, PlainNames}
 use Rattle.family_names.proofs.Answering.{found_same}
 
 pub no_directive : (s : Sign) → is_group s ≡ false → directive_of s ≡ None
@@ -48,23 +50,28 @@ all_stay truths (x ∷ xs) h =
     ∙ ap (λ (ss : List Section). x ∷ kept_from truths ss xs) (after_none truths x g)
     ∙ ap (λ (ys : List Item). x ∷ ys) (all_stay truths xs (or_second (is_group x.sign) (has_groups xs) h))
 
-pub until_none : (w : List Item) → has_groups w ≡ false → has_groups (until_main w) ≡ false
-until_none [] h = refl
-until_none (x ∷ xs) h = elim (is_main x.sign) as (λ b. has_groups (if b then [] else x ∷ until_main xs) ≡ false) [
-  | true ↦ refl
-  | false ↦ ap (λ (b : Bool). b || has_groups (until_main xs)) (or_first (is_group x.sign) (has_groups xs) h) ∙ until_none xs (or_second (is_group x.sign) (has_groups xs) h)
-]
+-- the items without the names that `main` uses
+declared_none : (main declaring : Bool) (w : List Item) → has_groups w ≡ false → has_groups (declarations_from main declaring w) ≡ false
+declared_none main declaring [] h = refl
+declared_none main declaring (x ∷ xs) h =
+    let m = main || is_main x.sign in
+    let d = is_declaring x.sign in
+    let rest = declared_none m d xs (or_second (is_group x.sign) (has_groups xs) h) in
+    elim (main && not declaring && is_name x.sign) as (λ b. has_groups (if b then declarations_from (main || is_main x.sign) (is_declaring x.sign) xs else x ∷ declarations_from (main || is_main x.sign) (is_declaring x.sign) xs) ≡ false) [
+      | true ↦ rest
+      | false ↦ ap (λ (b : Bool). b || has_groups (declarations_from m d xs)) (or_first (is_group x.sign) (has_groups xs) h) ∙ rest
+    ]
 
 pub kept_plain : (truths : List Bool) (before : List Item) → has_groups before ≡ false → is_kept truths before ≡ true
 kept_plain truths before h = ap all_kept (none_open truths before h)
 
 declared_plain : (truths : List Bool) (before : List Item) → has_groups before ≡ false → declared_at truths before ≡ declared_by before
-declared_plain truths before h = ap names_of (all_stay truths (until_main before) (until_none before h))
+declared_plain truths before h = ap names_of (all_stay truths (of_declarations before) (declared_none false false before h))
 
-missed_plain : (context : NameContext) (before : List Item) (x : ℕ) → has_groups before ≡ false → (values : List ℤ) → is_missed context before x values ≡ not (is_among x (declared_by before))
+missed_plain : (context : NameContext) (before : List Item) (x : ℕ) → has_groups before ≡ false → (values : List ℤ) → is_missed context before x values ≡ (is_in_own before x || not (is_among x (declared_by before)))
 missed_plain context before x h values =
-    ap (λ (b : Bool). b && not (is_among x (declared_at (truths_at context values) before))) (kept_plain (truths_at context values) before h)
-    ∙ ap (λ (ns : List ℕ). not (is_among x ns)) (declared_plain (truths_at context values) before h)
+    ap (λ (b : Bool). b && (is_in_own before x || not (is_among x (declared_at (truths_at context values) before)))) (kept_plain (truths_at context values) before h)
+    ∙ ap (λ (ns : List ℕ). is_in_own before x || not (is_among x ns)) (declared_plain (truths_at context values) before h)
 
 met_plain : (context : NameContext) (before : List Item) (x : ℕ) → has_groups before ≡ false → (values : List ℤ) → is_met_again context before x values ≡ is_among x (declared_by before)
 met_plain context before x h values =
@@ -79,26 +86,43 @@ never_found model holds code other fault none w = by_found w.found w.finds w.fau
     by_found None h e = e
     by_found (Some config) h e = absurd (let f : true ≡ false = sym h.met ∙ none config.values in cc)
 
+-- a name that is declared, in its own declarator or not
+own_plain : (context : NameContext) (before : List Item) (x : ℕ) (fault : Option FileCode) → has_groups before ≡ false → is_among x (declared_by before) ≡ true → IsWithFirst context.model (is_missed context before x) Undeclared None fault
+    → IsEither (is_in_own before x) (IsWithFirst context.model (λ (values : List ℤ). true) Undeclared None fault) (fault ≡ None)
+own_plain context before x fault h a w =
+    let missed : (values : List ℤ) → is_missed context before x values ≡ (is_in_own before x || false) = λ values. missed_plain context before x h values ∙ ap (λ (b : Bool). is_in_own before x || not b) a in
+    elim (is_in_own before x) as (λ o. is_in_own before x ≡ o → IsEither o (IsWithFirst context.model (λ (values : List ℤ). true) Undeclared None fault) (fault ≡ None)) [
+      | true ↦ λ o. record { found = w.found; finds = found_same context.model (is_missed context before x) (λ (values : List ℤ). true) (λ values. missed values ∙ ap (λ (b : Bool). b || false) o) w.found w.finds; fault_is = w.fault_is }
+      | false ↦ λ o. never_found context.model (is_missed context before x) Undeclared None fault (λ values. missed values ∙ ap (λ (b : Bool). b || false) o) w
+    ] refl
+
+-- where a name that is no value's is used, without groups
+abbrev IsOtherPlain : NameContext → List Item → ℕ → Option FileCode → Type 0
+IsOtherPlain context before x fault =
+    IsEither (is_feature context x) (fault ≡ Some FeatureInCode)
+    (IsEither (not (is_among x (declared_by before))) (fault ≡ Some (Undeclared None))
+    (IsEither (is_in_own before x) (IsWithFirst context.model (λ (values : List ℤ). true) Undeclared None fault) (fault ≡ None)))
+
 other_plain : (context : NameContext) (before : List Item) (x : ℕ) (fault : Option FileCode) → has_groups before ≡ false → IsEither (is_feature context x) (fault ≡ Some FeatureInCode)
     (IsEither (is_among x (declared_by before)) (IsWithFirst context.model (is_missed context before x) Undeclared None fault) (fault ≡ Some (Undeclared None)))
-    → fault ≡ (if is_feature context x then Some FeatureInCode else (if is_among x (declared_by before) then None else Some (Undeclared None)))
+    → IsOtherPlain context before x fault
 other_plain context before x fault h u =
     elim (is_feature context x) as (λ f. IsEither f (fault ≡ Some FeatureInCode) (IsEither (is_among x (declared_by before)) (IsWithFirst context.model (is_missed context before x) Undeclared None fault) (fault ≡ Some (Undeclared None)))
-    → fault ≡ (if f then Some FeatureInCode else (if is_among x (declared_by before) then None else Some (Undeclared None)))) [
+    → IsEither f (fault ≡ Some FeatureInCode) (IsEither (not (is_among x (declared_by before))) (fault ≡ Some (Undeclared None))
+    (IsEither (is_in_own before x) (IsWithFirst context.model (λ (values : List ℤ). true) Undeclared None fault) (fault ≡ None)))) [
       | true ↦ λ e. e
       | false ↦ elim (is_among x (declared_by before)) as (λ a. is_among x (declared_by before) ≡ a → IsEither a (IsWithFirst context.model (is_missed context before x) Undeclared None fault) (fault ≡ Some (Undeclared None))
-          → fault ≡ (if a then None else Some (Undeclared None))) [
-            | true ↦ λ a w. never_found context.model (is_missed context before x) Undeclared None fault (λ values. missed_plain context before x h values ∙ ap not a) w
+          → IsEither (not a) (fault ≡ Some (Undeclared None)) (IsEither (is_in_own before x) (IsWithFirst context.model (λ (values : List ℤ). true) Undeclared None fault) (fault ≡ None))) [
+            | true ↦ λ a w. own_plain context before x fault h a w
             | false ↦ λ a e. e
           ] refl
     ] u
 
-use_plain : (context : NameContext) (before : List Item) (x : ℕ) (fault : Option FileCode) → has_groups before ≡ false → IsUseFault context before x fault → fault ≡ plain_use_fault context before x
+use_plain : (context : NameContext) (before : List Item) (x : ℕ) (fault : Option FileCode) → has_groups before ≡ false → IsUseFault context before x fault → IsPlainUseFault context before x fault
 use_plain context before x fault h u =
     elim (is_value context x) as (λ v. IsEither v (fault ≡ value_fault context (values_of context before) (length (constants_of before)) x)
     (IsEither (is_feature context x) (fault ≡ Some FeatureInCode) (IsEither (is_among x (declared_by before)) (IsWithFirst context.model (is_missed context before x) Undeclared None fault) (fault ≡ Some (Undeclared None))))
-    → fault ≡ (if v then value_fault context (values_of context before) (length (constants_of before)) x
-    else (if is_feature context x then Some FeatureInCode else (if is_among x (declared_by before) then None else Some (Undeclared None))))) [
+    → IsEither v (fault ≡ value_fault context (values_of context before) (length (constants_of before)) x) (IsOtherPlain context before x fault)) [
       | true ↦ λ e. e
       | false ↦ λ e. other_plain context before x fault h e
     ] u
@@ -113,7 +137,7 @@ declaration_plain context before x fault h w =
 
 pub plain_names : PlainNames
 plain_names context before x fault h n =
-    elim (has_main before) as (λ m. IsEither m (IsUseFault context before x fault) (IsDeclarationFault context before x fault) → IsEither m (fault ≡ plain_use_fault context before x)
+    elim (is_used_behind before) as (λ m. IsEither m (IsUseFault context before x fault) (IsDeclarationFault context before x fault) → IsEither m (IsPlainUseFault context before x fault)
     (IsEither (is_among x (declared_by before)) (IsWithFirst context.model (λ (values : List ℤ). true) Twice (new_name_fault context before x) fault) (fault ≡ new_name_fault context before x))) [
       | true ↦ λ u. use_plain context before x fault h u
       | false ↦ λ w. declaration_plain context before x fault h w

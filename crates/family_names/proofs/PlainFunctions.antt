@@ -7,16 +7,23 @@ use Rattle.c_grammar.specs.declared.items.Item.{Item}
 use Rattle.c_grammar.specs.Functions.{is_void, is_equals, is_function, stands_behind, is_as_asked, functions_from, of_functions, functions_of}
 use Rattle.c_grammar.specs.Grammar.{is_group}
 use Rattle.family_names.specs.Functions.{functions_by, functions_at, callable_by, callable_at}
-use Rattle.family_names.specs.Names.{NameContext, truths_at, has_main, until_main, is_among, is_met_unlike, is_uncallable, function_fault, IsWithFirst, IsEither, IsCallFault, IsPrototypeFault}
+use Rattle.family_names.specs.Names.{NameContext, truths_at, is_main, has_main, until_main, is_among, is_met_unlike, is_uncallable, function_fault, IsWithFirst, IsEither, IsCallFault, IsPrototypeFault}
 use Rattle.family_names.specs.Laws.{has_groups, plain_call_fault, PlainFunctions}
 use Rattle.family_names.proofs.Answering.{found_same}
-use Rattle.family_names.proofs.Plain.{or_first, or_second, all_stay, until_none, kept_plain, never_found}
+use Rattle.family_names.proofs.Plain.{or_first, or_second, all_stay, kept_plain, never_found}
 
 from_none : (void behind : Bool) (w : List Item) → has_groups w ≡ false → has_groups (functions_from void behind w) ≡ false
 from_none void behind [] h = refl
 from_none void behind (x ∷ xs) h = elim (is_function x.sign && not (is_as_asked void behind)) as (λ t. has_groups (if t then functions_from void (is_void x.sign) xs else x ∷ functions_from void (is_void x.sign) xs) ≡ false) [
   | true ↦ from_none void (is_void x.sign) xs (or_second (is_group x.sign) (has_groups xs) h)
   | false ↦ ap (λ (b : Bool). b || has_groups (functions_from void (is_void x.sign) xs)) (or_first (is_group x.sign) (has_groups xs) h) ∙ from_none void (is_void x.sign) xs (or_second (is_group x.sign) (has_groups xs) h)
+]
+
+until_none : (w : List Item) → has_groups w ≡ false → has_groups (until_main w) ≡ false
+until_none [] h = refl
+until_none (x ∷ xs) h = elim (is_main x.sign) as (λ b. has_groups (if b then [] else x ∷ until_main xs) ≡ false) [
+  | true ↦ refl
+  | false ↦ ap (λ (b : Bool). b || has_groups (until_main xs)) (or_first (is_group x.sign) (has_groups xs) h) ∙ until_none xs (or_second (is_group x.sign) (has_groups xs) h)
 ]
 
 functions_plain : (truths : List Bool) (void : Bool) (before : List Item) → has_groups before ≡ false → functions_at truths void before ≡ functions_by void before

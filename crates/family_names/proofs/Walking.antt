@@ -6,6 +6,7 @@ use Rattle.std.proofs.lemmas.List.Folds.{list_any-append}
 use Rattle.fam_outer.specs.declared.faults.Place.{Place}
 use Rattle.fam_outer.specs.declared.faults.FileCode.{FileCode}
 use Rattle.fam_outer.specs.declared.faults.FileCode.TheVariants.{Undeclared, Twice, FeatureInCode}
+use Rattle.linear_atoms.specs.declared.atoms.Config.{Config}
 use Rattle.cpp_conditions.specs.declared.models.Model.{Model}
 use Rattle.cpp_groups.specs.declared.section.Section.{Section}
 use Rattle.cpp_groups.specs.Kept.{all_kept, sections_after}
@@ -17,20 +18,22 @@ use Rattle.c_grammar.specs.Constants.{is_constant, kind_after}
 use Rattle.c_grammar.specs.Functions.{is_void, is_equals, function_of, stands_behind}
 use Rattle.c_grammar.specs.Grammar.{at}
 use Rattle.c_grammar.specs.Kept.{directive_of}
+use Rattle.c_grammar.specs.Locals.{declares_behind, of_declarations, is_in_own}
 use Rattle.family_names.specs.declared.constants.Constants.{Constants}
 use Rattle.family_names.specs.declared.declarations.Declaration.{Declaration}
 use Rattle.family_names.specs.declared.faults.Seen.{Seen}
 use Rattle.family_names.specs.declared.values.Used.{Used}
 use Rattle.family_names.specs.Declarations.{is_kept as declaration_kept, is_declared}
 use Rattle.family_names.specs.Groups.{sections}
-use Rattle.family_names.specs.Names.{NameContext, truths_at, is_main, has_main, until_main, name_of, declared_by, constants_of, variables_of, values_of, is_among, with_number, each_once, is_kept, is_missed, is_met_again, is_feature, is_value, value_fault, full_fault, new_name_fault, IsWithFirst, IsEither, IsUseFault, IsDeclarationFault, IsCallFault, IsPrototypeFault, IsNameFault, IsChangeFault, changed_place, IsFaultFrom}
+use Rattle.family_names.specs.Names.{NameContext, truths_at, is_main, has_main, name_of, declared_by, declared_at, constants_of, variables_of, values_of, is_among, with_number, each_once, is_kept, is_missed, is_met_again, is_feature, is_value, value_fault, full_fault, new_name_fault, code_with, IsWithFirst, IsEither, is_used_behind, IsUseFault, IsDeclarationFault, IsCallFault, IsPrototypeFault, IsNameFault, IsChangeFault, changed_place, IsFaultFrom}
 use Rattle.family_names.specs.Judging as judging
-use Rattle.family_names.specs.Judging.{AreFunctions, IsSeen, AreUsed, AreSettled, UsesValue, IsOtherFault, Uses, AreNamed, new_fault, with_kind, IsAgain, Adds, Declares, IsCall, DeclaresFunction, Judges, AreHeld, IsChange}
+use Rattle.family_names.specs.Judging.{AreFunctions, IsSeen, AreUsed, AreSettled, in_scope, UsesValue, IsOtherFault, Uses, AreNamed, new_fault, with_kind, IsAgain, Adds, Declares, IsCall, DeclaresFunction, Judges, AreHeld, IsChange}
 use Rattle.family_names.proofs.Answering.{found_same}
-use Rattle.family_names.proofs.Declared.{behind_more, main_on, AreStill, more_declared, still_behind, still_main, still_other, once_append, or_false, or_true, among_once, or_left, among_kept, one_more}
+use Rattle.family_names.proofs.Declared.{behind_more, main_on, AreStill, more_named, still_used, still_other, once_append, or_false, or_true, among_once, or_left, among_kept, one_more}
 use Rattle.family_names.proofs.Calling.{still_functions, declared_functions, call_is, prototype_is}
 use Rattle.family_names.proofs.FunctionsBehind.{AreStillFunctions, IsFunctionMore, called_functions, other_functions, more_functions}
-use Rattle.family_names.proofs.KindsBehind.{still_constants, still_variables, more_constants, more_variables, used_unnamed, used_declared, used_other, used_names}
+use Rattle.family_names.proofs.KindsBehind.{still_constants, still_variables, more_constants, more_variables, used_unnamed, used_other, used_names}
+use Rattle.family_names.proofs.Features.{no_value}
 
 -- ---- what is seen
 
@@ -39,12 +42,27 @@ seen_among before seen x k = ap (is_among x) k.names ∙ among_once x [] (declar
 
 pub seen_named : (before : List Item) (seen : Seen) → IsSeen before seen → AreNamed seen
 seen_named before seen k truths x h =
-    seen_among before seen x k ∙ among_kept x truths [] (until_main before) (sym (k.declarations truths x) ∙ h)
+    seen_among before seen x k ∙ among_kept x truths [] (of_declarations before) (sym (k.declarations truths x) ∙ h)
 
-missed_same : (context : NameContext) (before : List Item) (seen : Seen) (x : ℕ) → IsSeen before seen → (values : List ℤ) → judging.is_missed context seen.groups seen.declarations.items x values ≡ is_missed context before x values
-missed_same context before seen x k values =
-    ap (λ (ss : List Section). all_kept ss && not (is_declared (truths_at context values) seen.declarations.items x)) (k.groups (truths_at context values))
-    ∙ ap (λ (b : Bool). is_kept (truths_at context values) before && not b) (k.declarations (truths_at context values) x)
+-- whether a name that comes next is used, as the code asks
+pub used_next : (before : List Item) (seen : Seen) (declares : Bool) → IsSeen before seen → declares ≡ declares_behind before → (seen.in_main && not declares) ≡ is_used_behind before
+used_next before seen declares k d = ap (λ (b : Bool). b && not declares) k.main ∙ ap (λ (b : Bool). has_main before && not b) d
+
+used_in_main : (before : List Item) → is_used_behind before ≡ true → has_main before ≡ true
+used_in_main before h = elim (has_main before) as (λ b. (b && not (declares_behind before)) ≡ true → b ≡ true) [ true ↦ λ _. refl | false ↦ λ e. absurd cc ] h
+
+-- a name in its own declarator is in no scope
+not_in_scope : (own : Bool) (ds : List Declaration) (truths : List Bool) (x : ℕ) → not (is_declared truths (in_scope own ds) x) ≡ (own || not (is_declared truths ds x))
+not_in_scope true ds truths x = refl
+not_in_scope false ds truths x = refl
+
+missed_same : (context : NameContext) (before : List Item) (seen : Seen) (own : Bool) (x : ℕ) → IsSeen before seen → own ≡ is_in_own before x → (values : List ℤ)
+    → judging.is_missed context seen.groups (in_scope own seen.declarations.items) x values ≡ is_missed context before x values
+missed_same context before seen own x k o values =
+    ap (λ (ss : List Section). all_kept ss && not (is_declared (truths_at context values) (in_scope own seen.declarations.items) x)) (k.groups (truths_at context values))
+    ∙ ap (λ (b : Bool). is_kept (truths_at context values) before && b) (not_in_scope own seen.declarations.items (truths_at context values) x
+    ∙ ap (λ (b : Bool). own || not b) (k.declarations (truths_at context values) x)
+    ∙ ap (λ (b : Bool). b || not (is_among x (declared_at (truths_at context values) before))) o)
 
 met_same : (context : NameContext) (before : List Item) (seen : Seen) (x : ℕ) → IsSeen before seen → (values : List ℤ) → judging.is_met_again context seen.groups seen.declarations.items x values ≡ is_met_again context before x values
 met_same context before seen x k values =
@@ -62,15 +80,15 @@ outer : (b : Bool) (A B C : Type 0) → (A → C) → IsEither b A B → IsEithe
 outer true A B C f h = f h
 outer false A B C f h = h
 
-other_is : (context : NameContext) (before : List Item) (seen : Seen) (x : ℕ) (fault : Option FileCode) → IsSeen before seen → IsOtherFault context seen x fault
+other_is : (context : NameContext) (before : List Item) (seen : Seen) (own : Bool) (x : ℕ) (fault : Option FileCode) → IsSeen before seen → own ≡ is_in_own before x → IsOtherFault context seen own x fault
     → IsEither (is_feature context x) (fault ≡ Some FeatureInCode) (IsEither (is_among x (declared_by before)) (IsWithFirst context.model (is_missed context before x) Undeclared None fault) (fault ≡ Some (Undeclared None)))
-other_is context before seen x fault k u =
+other_is context before seen own x fault k o u =
     inner (is_feature context x) (fault ≡ Some FeatureInCode)
-    (IsEither (is_among x seen.names.items) (IsWithFirst context.model (judging.is_missed context seen.groups seen.declarations.items x) Undeclared None fault) (fault ≡ Some (Undeclared None)))
+    (IsEither (is_among x seen.names.items) (IsWithFirst context.model (judging.is_missed context seen.groups (in_scope own seen.declarations.items) x) Undeclared None fault) (fault ≡ Some (Undeclared None)))
     (IsEither (is_among x (declared_by before)) (IsWithFirst context.model (is_missed context before x) Undeclared None fault) (fault ≡ Some (Undeclared None)))
-    (λ h. outer (is_among x (declared_by before)) (IsWithFirst context.model (judging.is_missed context seen.groups seen.declarations.items x) Undeclared None fault) (fault ≡ Some (Undeclared None)) (IsWithFirst context.model (is_missed context before x) Undeclared None fault)
-    (first_same context.model (judging.is_missed context seen.groups seen.declarations.items x) (is_missed context before x) Undeclared None fault (missed_same context before seen x k))
-    (subst (λ (b : Bool). IsEither b (IsWithFirst context.model (judging.is_missed context seen.groups seen.declarations.items x) Undeclared None fault) (fault ≡ Some (Undeclared None))) (seen_among before seen x k) h))
+    (λ h. outer (is_among x (declared_by before)) (IsWithFirst context.model (judging.is_missed context seen.groups (in_scope own seen.declarations.items) x) Undeclared None fault) (fault ≡ Some (Undeclared None)) (IsWithFirst context.model (is_missed context before x) Undeclared None fault)
+    (first_same context.model (judging.is_missed context seen.groups (in_scope own seen.declarations.items) x) (is_missed context before x) Undeclared None fault (missed_same context before seen own x k o))
+    (subst (λ (b : Bool). IsEither b (IsWithFirst context.model (judging.is_missed context seen.groups (in_scope own seen.declarations.items) x) Undeclared None fault) (fault ≡ Some (Undeclared None))) (seen_among before seen x k) h))
     u
 
 value_is : (context : NameContext) (before : List Item) (seen : Seen) (old new : Used) (x : ℕ) (fault : Option FileCode) → IsSeen before seen → AreUsed context before old → UsesValue context (length seen.constants.items) old x new fault
@@ -79,41 +97,44 @@ value_is context before seen old new x fault k a u =
     u.fault_is ∙ ap (λ (ns : List ℕ). value_fault context ns (length seen.constants.items) x) a.names
     ∙ ap (λ (ns : List ℕ). value_fault context (values_of context before) (length ns) x) k.constants
 
-use_is : (context : NameContext) (before : List Item) (seen : Seen) (old new : Used) (settled : List Declaration) (x : ℕ) (fault : Option FileCode) → IsSeen before seen → AreUsed context before old → Uses context seen old settled x new fault
+use_is : (context : NameContext) (before : List Item) (seen : Seen) (old new : Used) (settled : List Declaration) (own : Bool) (x : ℕ) (fault : Option FileCode) → IsSeen before seen → own ≡ is_in_own before x → AreUsed context before old → Uses context seen old settled own x new fault
     → IsUseFault context before x fault
-use_is context before seen old new settled x fault k a u =
-    elim (is_value context x) as (λ b. IsEither b (UsesValue context (length seen.constants.items) old x new fault) (IsOtherFault context seen x fault × (new ≡ old))
+use_is context before seen old new settled own x fault k o a u =
+    elim (is_value context x) as (λ b. IsEither b (UsesValue context (length seen.constants.items) old x new fault) (IsOtherFault context seen own x fault × (new ≡ old))
     → IsEither b (fault ≡ value_fault context (values_of context before) (length (constants_of before)) x)
     (IsEither (is_feature context x) (fault ≡ Some FeatureInCode) (IsEither (is_among x (declared_by before)) (IsWithFirst context.model (is_missed context before x) Undeclared None fault) (fault ≡ Some (Undeclared None))))) [
       | true ↦ λ h. value_is context before seen old new x fault k a h
-      | false ↦ λ h. other_is context before seen x fault k h.0
+      | false ↦ λ h. other_is context before seen own x fault k o h.0
     ] u.fault_is
 
 -- the features that are used behind a use
-used_is : (context : NameContext) (before : List Item) (p : Place) (seen : Seen) (old new : Used) (settled : List Declaration) (x : ℕ) → has_main before ≡ true → AreUsed context before old → Uses context seen old settled x new None
+used_is : (context : NameContext) (before : List Item) (p : Place) (seen : Seen) (old new : Used) (settled : List Declaration) (own : Bool) (x : ℕ) → has_main before ≡ true → AreUsed context before old → Uses context seen old settled own x new None
     → AreUsed context (before ++ at p (signs.Name x) ∷ []) new
-used_is context before p seen old new settled x main a u =
-    elim (is_value context x) as (λ b. is_value context x ≡ b → IsEither b (UsesValue context (length seen.constants.items) old x new None) (IsOtherFault context seen x None × (new ≡ old)) → AreUsed context (before ++ at p (signs.Name x) ∷ []) new) [
+used_is context before p seen old new settled own x main a u =
+    elim (is_value context x) as (λ b. is_value context x ≡ b → IsEither b (UsesValue context (length seen.constants.items) old x new None) (IsOtherFault context seen own x None × (new ≡ old)) → AreUsed context (before ++ at p (signs.Name x) ∷ []) new) [
       | true ↦ λ v h. record {
         names = h.names refl ∙ ap (λ (ns : List ℕ). with_number ns x) a.names ∙ sym (used_names context before p x main v);
         tests = h.tests refl;
       }
-      | false ↦ λ v h. used_other context before p x new main v (subst (AreUsed context before) (sym h.1) a)
+      | false ↦ λ v h. used_other context before p x new v (subst (AreUsed context before) (sym h.1) a)
     ] refl u.fault_is
 
 -- the fault of a new name
-new_is : (context : NameContext) (before : List Item) (seen : Seen) (constant : Bool) (x : ℕ) → IsSeen before seen → constant ≡ is_constant (kind_after kinds.Variable before) → new_fault context seen constant x ≡ new_name_fault context before x
-new_is context before seen constant x k c =
-    ap (λ (b : Bool). if is_feature context x then Some FeatureInCode else (if b then None else full_fault constant (length seen.constants.items) (length seen.variables.items))) (seen_among before seen x k)
-    ∙ ap (λ (b : Bool). if is_feature context x then Some FeatureInCode else (if is_among x (declared_by before) then None else full_fault b (length seen.constants.items) (length seen.variables.items))) c
-    ∙ ap (λ (ns : List ℕ). if is_feature context x then Some FeatureInCode else (if is_among x (declared_by before) then None else full_fault (is_constant (kind_after kinds.Variable before)) (length ns) (length seen.variables.items))) k.constants
-    ∙ ap (λ (ns : List ℕ). if is_feature context x then Some FeatureInCode else (if is_among x (declared_by before) then None else full_fault (is_constant (kind_after kinds.Variable before)) (length (constants_of before)) (length ns))) k.variables
+new_is : (context : NameContext) (before : List Item) (seen : Seen) (used : Used) (constant : Bool) (x : ℕ) → IsSeen before seen → AreUsed context before used → constant ≡ is_constant (kind_after kinds.Variable before)
+    → new_fault context seen (length used.names.items) constant x ≡ new_name_fault context before x
+new_is context before seen used constant x k a c =
+    let values = length used.names.items in
+    ap (λ (b : Bool). if is_feature context x then Some FeatureInCode else (if b then None else full_fault constant (length seen.constants.items + values) (length seen.variables.items))) (seen_among before seen x k)
+    ∙ ap (λ (b : Bool). if is_feature context x then Some FeatureInCode else (if is_among x (declared_by before) then None else full_fault b (length seen.constants.items + values) (length seen.variables.items))) c
+    ∙ ap (λ (ns : List ℕ). if is_feature context x then Some FeatureInCode else (if is_among x (declared_by before) then None else full_fault (is_constant (kind_after kinds.Variable before)) (length ns + values) (length seen.variables.items))) k.constants
+    ∙ ap (λ (ns : List ℕ). if is_feature context x then Some FeatureInCode else (if is_among x (declared_by before) then None else full_fault (is_constant (kind_after kinds.Variable before)) (length (constants_of before) + length ns) (length seen.variables.items))) a.names
+    ∙ ap (λ (ns : List ℕ). if is_feature context x then Some FeatureInCode else (if is_among x (declared_by before) then None else full_fault (is_constant (kind_after kinds.Variable before)) (length (constants_of before) + length (values_of context before)) (length ns))) k.variables
 
-declaration_is : (context : NameContext) (before : List Item) (seen : Seen) (constant : Bool) (x : ℕ) (fault : Option FileCode) → IsSeen before seen → constant ≡ is_constant (kind_after kinds.Variable before) → IsAgain context seen constant x fault
+declaration_is : (context : NameContext) (before : List Item) (seen : Seen) (used : Used) (constant : Bool) (x : ℕ) (fault : Option FileCode) → IsSeen before seen → AreUsed context before used → constant ≡ is_constant (kind_after kinds.Variable before) → IsAgain context seen (length used.names.items) constant x fault
     → IsDeclarationFault context before x fault
-declaration_is context before seen constant x fault k c h =
+declaration_is context before seen used constant x fault k a c h =
     first_same context.model (judging.is_met_again context seen.groups seen.declarations.items x) (is_met_again context before x) Twice (new_name_fault context before x) fault (met_same context before seen x k)
-    (subst (λ (o : Option FileCode). IsWithFirst context.model (judging.is_met_again context seen.groups seen.declarations.items x) Twice o fault) (new_is context before seen constant x k c) h)
+    (subst (λ (o : Option FileCode). IsWithFirst context.model (judging.is_met_again context seen.groups seen.declarations.items x) Twice o fault) (new_is context before seen used constant x k a c) h)
 
 -- ---- one item more
 
@@ -145,7 +166,7 @@ pub at_main : (context : NameContext) (before : List Item) (sign : Sign) (seen n
     → new.groups ≡ seen.groups → new.in_main ≡ true → AreSame seen new → new.functions ≡ seen.functions → Judges context before sign new used settled None
 at_main context before sign seen new used settled is k a s groups main same functions = subst (λ (t : Sign). Judges context before t new used settled None) (sym is) (record {
   fault_is = refl;
-  seen_is = λ _ p. still_seen before (at p signs.Main) seen new k (same_functions before (at p signs.Main) seen new k (other_functions before (at p signs.Main) refl) functions) (still_main before (at p signs.Main) refl) (λ truths. ap (sections truths) groups) (main ∙ sym (or_true (has_main before))) same;
+  seen_is = λ _ p. still_seen before (at p signs.Main) seen new k (same_functions before (at p signs.Main) seen new k (other_functions before (at p signs.Main) refl) functions) (still_other before (at p signs.Main) refl) (λ truths. ap (sections truths) groups) (main ∙ sym (or_true (has_main before))) same;
   used_is = λ _ p. used_unnamed context before (at p signs.Main) used refl a;
   settled_is = λ _. subst (λ (ds : List Declaration). AreSettled context ds settled) (sym same.declarations) s;
 })
@@ -153,20 +174,20 @@ at_main context before sign seen new used settled is k a s groups main same func
 all_same : (seen : Seen) → AreSame seen seen
 all_same seen = record { names = refl; constants = refl; variables = refl; declarations = refl }
 
-pub at_use : (context : NameContext) (before : List Item) (sign : Sign) (seen : Seen) (old new : Used) (settled : List Declaration) (x : ℕ) (fault : Option FileCode) → sign ≡ signs.Name x → seen.in_main ≡ true → IsSeen before seen → AreUsed context before old
-    → Uses context seen old settled x new fault → Judges context before sign seen new settled fault
-at_use context before sign seen old new settled x fault is main k a u = subst (λ (t : Sign). Judges context before t seen new settled fault) (sym is) (record {
-  fault_is = subst (λ (b : Bool). IsEither b (IsUseFault context before x fault) (IsDeclarationFault context before x fault)) (sym (sym k.main ∙ main)) (use_is context before seen old new settled x fault k a u);
-  seen_is = λ _ p. still_seen before (at p (signs.Name x)) seen seen k (still_functions before (at p (signs.Name x)) seen.functions (other_functions before (at p (signs.Name x)) refl) k.functions) (still_behind before (at p (signs.Name x)) (sym k.main ∙ main)) (λ truths. refl) (k.main ∙ sym (or_false (has_main before))) (all_same seen);
-  used_is = λ none p. used_is context before p seen old new settled x (sym k.main ∙ main) a (subst (Uses context seen old settled x new) none u);
+pub at_use : (context : NameContext) (before : List Item) (sign : Sign) (seen : Seen) (old new : Used) (settled : List Declaration) (own : Bool) (x : ℕ) (fault : Option FileCode) → sign ≡ signs.Name x → is_used_behind before ≡ true → own ≡ is_in_own before x → IsSeen before seen → AreUsed context before old
+    → Uses context seen old settled own x new fault → Judges context before sign seen new settled fault
+at_use context before sign seen old new settled own x fault is used o k a u = subst (λ (t : Sign). Judges context before t seen new settled fault) (sym is) (record {
+  fault_is = subst (λ (b : Bool). IsEither b (IsUseFault context before x fault) (IsDeclarationFault context before x fault)) (sym used) (use_is context before seen old new settled own x fault k o a u);
+  seen_is = λ _ p. still_seen before (at p (signs.Name x)) seen seen k (still_functions before (at p (signs.Name x)) seen.functions (other_functions before (at p (signs.Name x)) refl) k.functions) (still_used before p x used) (λ truths. refl) (k.main ∙ sym (or_false (has_main before))) (all_same seen);
+  used_is = λ none p. used_is context before p seen old new settled own x (used_in_main before used) a (subst (Uses context seen old settled own x new) none u);
   settled_is = λ _. u.settled_is;
 })
 
 -- a declaration more
-more_seen : (before : List Item) (p : Place) (constant : Bool) (x : ℕ) (old new : Seen) → IsSeen before old → has_main before ≡ false → constant ≡ is_constant (kind_after kinds.Variable before) → Adds old constant x new
+more_seen : (before : List Item) (p : Place) (constant : Bool) (x : ℕ) (old new : Seen) → IsSeen before old → is_used_behind before ≡ false → constant ≡ is_constant (kind_after kinds.Variable before) → Adds old constant x new
     → IsSeen (before ++ at p (signs.Name x) ∷ []) new
 more_seen before p constant x old new k h c a =
-    let m = more_declared before (at p (signs.Name x)) h refl in
+    let m = more_named before p x h in
     record {
       groups = λ truths. ap (sections truths) a.groups ∙ k.groups truths ∙ sym (behind_more truths [] before (at p (signs.Name x)));
       main = a.main ∙ k.main ∙ sym (main_on before (at p (signs.Name x)) ∙ or_false (has_main before));
@@ -185,12 +206,24 @@ more_settled context old new constant x settled a s = λ values y valid h.
     ∙ list_any-append (λ (d : Declaration). declaration_kept (truths_at context values) y d) old.declarations.items (record { name = x; groups = old.groups } ∷ [])
     ∙ or_left (is_declared (truths_at context values) old.declarations.items y) (is_declared (truths_at context values) (record { name = x; groups = old.groups } ∷ []) y) (s values y valid h)
 
-pub at_declaration : (context : NameContext) (before : List Item) (sign : Sign) (seen new : Seen) (used : Used) (settled : List Declaration) (constant : Bool) (x : ℕ) (fault : Option FileCode) → sign ≡ signs.Name x → seen.in_main ≡ false → IsSeen before seen
-    → AreUsed context before used → AreSettled context seen.declarations.items settled → constant ≡ is_constant (kind_after kinds.Variable before) → Declares context seen constant x new fault → Judges context before sign new used settled fault
-at_declaration context before sign seen new used settled constant x fault is main k a s c d = subst (λ (t : Sign). Judges context before t new used settled fault) (sym is) (record {
-  fault_is = subst (λ (b : Bool). IsEither b (IsUseFault context before x fault) (IsDeclarationFault context before x fault)) (sym (sym k.main ∙ main)) (declaration_is context before seen constant x fault k c d.fault_is);
-  seen_is = λ none p. more_seen before p constant x seen new k (sym k.main ∙ main) c (d.added none);
-  used_is = λ _ p. used_declared context before (at p (signs.Name x)) used (sym k.main ∙ main) a;
+-- a name without a fault is no feature's
+no_feature : (b : Bool) (other : Option FileCode) → (if b then Some FeatureInCode else other) ≡ None → b ≡ false
+no_feature true other e = absurd cc
+no_feature false other e = refl
+
+again_none : (context : NameContext) (seen : Seen) (values : ℕ) (constant : Bool) (x : ℕ) (fault : Option FileCode) → IsAgain context seen values constant x fault → fault ≡ None → is_feature context x ≡ false
+again_none context seen values constant x fault h none = by_found h.found (sym h.fault_is ∙ none)
+  where
+    by_found : (found : Option Config) → code_with Twice (new_fault context seen values constant x) found ≡ None → is_feature context x ≡ false
+    by_found None e = no_feature (is_feature context x) (if is_among x seen.names.items then None else full_fault constant (length seen.constants.items + values) (length seen.variables.items)) e
+    by_found (Some config) e = absurd cc
+
+pub at_declaration : (context : NameContext) (before : List Item) (sign : Sign) (seen new : Seen) (used : Used) (settled : List Declaration) (values : ℕ) (constant : Bool) (x : ℕ) (fault : Option FileCode) → sign ≡ signs.Name x → is_used_behind before ≡ false → IsSeen before seen
+    → AreUsed context before used → AreSettled context seen.declarations.items settled → constant ≡ is_constant (kind_after kinds.Variable before) → values ≡ length used.names.items → Declares context seen values constant x new fault → Judges context before sign new used settled fault
+at_declaration context before sign seen new used settled values constant x fault is not_used k a s c v d = subst (λ (t : Sign). Judges context before t new used settled fault) (sym is) (record {
+  fault_is = subst (λ (b : Bool). IsEither b (IsUseFault context before x fault) (IsDeclarationFault context before x fault)) (sym not_used) (declaration_is context before seen used constant x fault k a c (subst (λ (n : ℕ). IsAgain context seen n constant x fault) v d.fault_is));
+  seen_is = λ none p. more_seen before p constant x seen new k not_used c (d.added none);
+  used_is = λ none p. used_other context before p x used (no_value context x (again_none context seen values constant x fault d.fault_is none)) a;
   settled_is = λ none. more_settled context seen new constant x settled (d.added none) s;
 })
 
@@ -211,7 +244,7 @@ pub at_other : (context : NameContext) (before : List Item) (sign : Sign) (seen 
     → Judges context before sign new used settled None
 at_other context before sign seen new used settled o k a s groups main same functions = record {
   fault_is = o.has_no_fault context before;
-  seen_is = λ _ p. still_seen before (at p sign) seen new k (same_functions before (at p sign) seen new k (other_functions before (at p sign) o.declares_no_function) functions) (still_other before (at p sign) o.is_no_main o.names_none) groups
+  seen_is = λ _ p. still_seen before (at p sign) seen new k (same_functions before (at p sign) seen new k (other_functions before (at p sign) o.declares_no_function) functions) (still_other before (at p sign) o.names_none) groups
       (main ∙ k.main ∙ sym (ap (λ (b : Bool). has_main before || b) o.is_no_main ∙ or_false (has_main before))) same;
   used_is = λ _ p. used_unnamed context before (at p sign) used o.names_none a;
   settled_is = λ _. subst (λ (ds : List Declaration). AreSettled context ds settled) (sym same.declarations) s;
@@ -225,7 +258,7 @@ at_call context before sign seen used settled wants k fault is main s a settles 
   fault_is = subst (λ (b : Bool). IsEither b (IsCallFault context before k fault) (IsPrototypeFault context before k fault)) (sym (sym s.main ∙ main))
       (call_is context before seen.groups seen.functions wants k fault s.groups s.functions e call);
   seen_is = λ _ p. still_seen before (at p (signs.Function k)) seen seen s (still_functions before (at p (signs.Function k)) seen.functions (called_functions before (at p (signs.Function k)) (sym s.main ∙ main)) s.functions)
-      (still_behind before (at p (signs.Function k)) (sym s.main ∙ main)) (λ truths. refl) (s.main ∙ sym (or_false (has_main before))) (all_same seen);
+      (still_other before (at p (signs.Function k)) refl) (λ truths. refl) (s.main ∙ sym (or_false (has_main before))) (all_same seen);
   used_is = λ _ p. used_unnamed context before (at p (signs.Function k)) used refl a;
   settled_is = λ _. settles;
 })
@@ -239,7 +272,7 @@ at_prototype context before sign seen new used settled void k fault is main s a 
   seen_is = λ none p. still_seen before (at p (signs.Function k)) seen new s
       (declared_functions before (before ++ at p (signs.Function k) ∷ []) seen.groups void k seen.functions new.functions s.groups
       (subst (λ (b : Bool). IsFunctionMore before (before ++ at p (signs.Function k) ∷ []) b k) (sym e) (more_functions before p k (sym s.main ∙ main))) s.functions (d.added none))
-      (still_other before (at p (signs.Function k)) refl refl) (λ truths. ap (sections truths) groups) (in_main ∙ s.main ∙ sym (or_false (has_main before))) same;
+      (still_other before (at p (signs.Function k)) refl) (λ truths. ap (sections truths) groups) (in_main ∙ s.main ∙ sym (or_false (has_main before))) same;
   used_is = λ _ p. used_unnamed context before (at p (signs.Function k)) used refl a;
   settled_is = λ _. subst (λ (ds : List Declaration). AreSettled context ds settled) (sym same.declarations) settles;
 })

@@ -2,7 +2,7 @@
 use Rattle.std.specs.Prelude.{Bool, List, [], ◌∷◌, if◌then◌else◌}
 use Rattle.std.specs.List.{list_any}
 use Rattle.c_grammar.specs.declared.items.Item.{Item}
-pub use Rattle.c_grammar.specs.Kinds.{is_main}
+pub use Rattle.c_grammar.specs.Locals.{is_main}
 
 -- `main` stands among the items
 abbrev pub has_main : List Item → Bool

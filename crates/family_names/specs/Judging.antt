@@ -1,5 +1,5 @@
 -- What judging the names of items one by one answers.
-use Rattle.std.specs.Prelude.{◌≡◌, ℕ, ℤ, Bool, true, false, not, ◌&&◌, ◌||◌, List, [], ◌∷◌, ◌++◌, length, Option, None, Some, option_map, if◌then◌else◌}
+use Rattle.std.specs.Prelude.{◌≡◌, ℕ, ◌+◌, ℤ, Bool, true, false, not, ◌&&◌, ◌||◌, List, [], ◌∷◌, ◌++◌, length, Option, None, Some, option_map, if◌then◌else◌}
 use Rattle.fam_outer.specs.declared.faults.Place.{Place}
 use Rattle.fam_outer.specs.declared.faults.FileCode.{FileCode}
 use Rattle.fam_outer.specs.declared.faults.FileCode.TheVariants.{Undeclared, Twice, FeatureInCode}
@@ -7,7 +7,7 @@ use Rattle.cpp_conditions.specs.Validity.{plain, IsValid}
 use Rattle.c_grammar.specs.declared.items.Item.{Item}
 use Rattle.c_grammar.specs.declared.items.Sign.{Sign}
 use Rattle.c_grammar.specs.declared.items.Sign.TheVariants as signs
-use Rattle.c_grammar.specs.Constants.{IsTrack}
+use Rattle.c_grammar.specs.Changes.{IsTrack}
 use Rattle.c_grammar.specs.Grammar.{at}
 use Rattle.family_names.specs.declared.declarations.Declaration.{Declaration}
 use Rattle.family_names.specs.declared.constants.Constants.{Constants}
@@ -80,7 +80,12 @@ is_so context groups declarations questions.Undeclared = is_undeclared context d
 is_so context groups declarations questions.Missed = is_missed context groups declarations
 is_so context groups declarations questions.MetAgain = is_met_again context groups declarations
 
--- the fault of a name that is used and declared
+-- the declarations whose scope has begun, which is that of none where a name stands in its own declarator
+abbrev pub in_scope : Bool → List Declaration → List Declaration
+in_scope true declarations = []
+in_scope false declarations = declarations
+
+-- the fault of a name that is used and declared, and stands in no declarator of its own
 pub record Misses (context : NameContext) (seen : Seen) (settled : List Declaration) (x : ℕ) (fault : Option FileCode) : Type 0 where
   pub fault_is : IsWithFirst context.model (is_missed context seen.groups seen.declarations.items x) Undeclared None fault
   pub settled_is : AreSettled context seen.declarations.items settled
@@ -91,29 +96,30 @@ pub record UsesValue (context : NameContext) (constants : ℕ) (old : Used) (x :
   pub names : fault ≡ None → new.names.items ≡ with_number old.names.items x
   pub tests : fault ≡ None → new.tests ≡ test_count context new.names.items
 
--- the fault of another name that is used
-abbrev pub IsOtherFault : NameContext → Seen → ℕ → Option FileCode → Type 0
-IsOtherFault context seen x fault =
+-- the fault of another name that is used, in its own declarator or not
+abbrev pub IsOtherFault : NameContext → Seen → Bool → ℕ → Option FileCode → Type 0
+IsOtherFault context seen own x fault =
     IsEither (is_feature context x) (fault ≡ Some FeatureInCode)
-    (IsEither (is_among x seen.names.items) (IsWithFirst context.model (is_missed context seen.groups seen.declarations.items x) Undeclared None fault) (fault ≡ Some (Undeclared None)))
+    (IsEither (is_among x seen.names.items) (IsWithFirst context.model (is_missed context seen.groups (in_scope own seen.declarations.items) x) Undeclared None fault) (fault ≡ Some (Undeclared None)))
 
--- the fault of a name that is used
-pub record Uses (context : NameContext) (seen : Seen) (old : Used) (settled : List Declaration) (x : ℕ) (new : Used) (fault : Option FileCode) : Type 0 where
-  pub fault_is : IsEither (is_value context x) (UsesValue context (length seen.constants.items) old x new fault) (IsOtherFault context seen x fault × (new ≡ old))
+-- the fault of a name that is used, in its own declarator or not
+pub record Uses (context : NameContext) (seen : Seen) (old : Used) (settled : List Declaration) (own : Bool) (x : ℕ) (new : Used) (fault : Option FileCode) : Type 0 where
+  pub fault_is : IsEither (is_value context x) (UsesValue context (length seen.constants.items) old x new fault) (IsOtherFault context seen own x fault × (new ≡ old))
   pub settled_is : AreSettled context seen.declarations.items settled
 
 -- a name with a declaration that is kept is among those that are declared
 abbrev pub AreNamed : Seen → Type 0
 AreNamed seen = (truths : List Bool) (x : ℕ) → is_declared truths seen.declarations.items x ≡ true → is_among x seen.names.items ≡ true
 
--- the fault of a declaration whose name no declaration before it has at the same configuration: of a constant's or a variable's
-abbrev pub new_fault : NameContext → Seen → Bool → ℕ → Option FileCode
-new_fault context seen constant x =
+-- the fault of a declaration whose name no declaration before it has at the same configuration: of a constant's or a variable's, where so
+-- many features are used as values
+abbrev pub new_fault : NameContext → Seen → ℕ → Bool → ℕ → Option FileCode
+new_fault context seen values constant x =
     if is_feature context x then Some FeatureInCode
-    else (if is_among x seen.names.items then None else full_fault constant (length seen.constants.items) (length seen.variables.items))
+    else (if is_among x seen.names.items then None else full_fault constant (length seen.constants.items + values) (length seen.variables.items))
 
-abbrev pub IsAgain : NameContext → Seen → Bool → ℕ → Option FileCode → Type 0
-IsAgain context seen constant x fault = IsWithFirst context.model (is_met_again context seen.groups seen.declarations.items x) Twice (new_fault context seen constant x) fault
+abbrev pub IsAgain : NameContext → Seen → ℕ → Bool → ℕ → Option FileCode → Type 0
+IsAgain context seen values constant x fault = IsWithFirst context.model (is_met_again context seen.groups seen.declarations.items x) Twice (new_fault context seen values constant x) fault
 
 -- a name behind those of a kind, where it is of that kind and not among the names of both
 abbrev pub with_kind : Bool → List ℕ → List ℕ → ℕ → List ℕ
@@ -129,9 +135,9 @@ pub record Adds (old : Seen) (constant : Bool) (x : ℕ) (new : Seen) : Type 0 w
   pub declarations : new.declarations.items ≡ old.declarations.items ++ record { name = x; groups = old.groups } ∷ []
   pub functions : new.functions ≡ old.functions
 
--- the fault of a name that is declared; without one it is added
-pub record Declares (context : NameContext) (old : Seen) (constant : Bool) (x : ℕ) (new : Seen) (fault : Option FileCode) : Type 0 where
-  pub fault_is : IsAgain context old constant x fault
+-- the fault of a name that is declared, where so many features are used as values; without one it is added
+pub record Declares (context : NameContext) (old : Seen) (values : ℕ) (constant : Bool) (x : ℕ) (new : Seen) (fault : Option FileCode) : Type 0 where
+  pub fault_is : IsAgain context old values constant x fault
   pub added : fault ≡ None → Adds old constant x new
 
 -- the fault of a call in these groups, where a value is wanted or not

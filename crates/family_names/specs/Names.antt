@@ -1,8 +1,9 @@
 -- The names that the items of a file with groups declare, and the first fault of a name (ISO/IEC 9899:2011, 6.5.1 and 6.7).
--- Before `main` each name is that of a declaration, and behind it each name is used. A valid configuration gives each
--- condition a truth, and keeps the items that stand in kept groups. The name of an integer feature may be used behind `main`:
--- it is that of a variable which begins with the feature's value, and is never changed. A function is declared before `main`
--- and called behind it (6.5.2.2 and 6.7.6.3).
+-- Before `main` each name is that of a declaration, and so is a name of `main` behind a word of a type, `const` or a comma; each other
+-- name of `main` is used. The scope of a name begins behind its declarator and initialiser, since it has no value before, and goes on to
+-- the end of `main`. A valid configuration gives each condition a truth, and keeps the items that stand in kept groups. The name of an
+-- integer feature may be used in `main`: it is that of a variable which begins with the feature's value, and is never changed. A function
+-- is declared before `main` and called behind it (6.5.2.2 and 6.7.6.3).
 use Rattle.std.specs.Prelude.{◌≡◌, ℕ, ◌+◌, ℤ, ◌-ℤ◌, unsigned_abs, nat_eq, nat_le, nat_lt, Bool, true, false, not, ◌&&◌, ◌||◌, List, [], ◌∷◌, ◌++◌, length, map, slice_get, Option, Some, None, if◌then◌else◌}
 use Rattle.std.specs.List.{list_any, filter, sum_by}
 use Rattle.std.specs.Str.{bytes_eq}
@@ -23,33 +24,22 @@ use Rattle.c_grammar.specs.declared.items.Item.{Item}
 use Rattle.c_grammar.specs.declared.items.Sign.{Sign}
 use Rattle.c_grammar.specs.declared.items.Sign.TheVariants as signs
 use Rattle.c_grammar.specs.declared.constants.NameKind.TheVariants as kinds
-use Rattle.c_grammar.specs.Constants.{is_constant, kind_after, of_constants, changed_at}
+use Rattle.c_grammar.specs.Changes.{changed_at}
+use Rattle.c_grammar.specs.Constants.{is_constant, kind_after, of_constants}
 use Rattle.c_grammar.specs.Kinds.{is_declared_constant}
 use Rattle.c_grammar.specs.Functions.{is_void, is_equals, stands_behind}
 use Rattle.c_grammar.specs.Kept.{directive_of, kept}
+use Rattle.c_grammar.specs.Locals.{declares_behind, of_declarations, is_in_own}
+pub use Rattle.c_grammar.specs.Locals.{name_of, names_of, declared_by}
 use Rattle.atom_solver.specs.Solutions.{Finds}
 use Rattle.family_names.specs.Functions.{functions_at, callable_by, callable_at}
 pub use Rattle.family_names.specs.AroundMain.{is_main, has_main, until_main, behind_main}
 
 -- ---- declared names
 
--- the number of a name
-abbrev pub name_of : Sign → List ℕ
-name_of (signs.Name x) = x ∷ []
-name_of _ = []
-
--- the names among the items, in their order
-abbrev pub names_of : List Item → List ℕ
-names_of [] = []
-names_of (x ∷ xs) = name_of x.sign ++ names_of xs
-
--- the names that the items declare, whatever group they stand in
-abbrev pub declared_by : List Item → List ℕ
-declared_by items = names_of (until_main items)
-
--- the names that they declare where each condition has a truth
+-- the names that the items declare where each condition has a truth
 abbrev pub declared_at : List Bool → List Item → List ℕ
-declared_at truths items = names_of (kept truths (until_main items))
+declared_at truths items = names_of (kept truths (of_declarations items))
 
 -- the names that they declare as constants where each condition has a truth
 abbrev pub constants_at : List Bool → List Item → List ℕ
@@ -158,10 +148,10 @@ values_of context items = each_once [] (filter (is_value context) (names_of (beh
 
 -- ---- what a configuration keeps
 
--- the name behind these items is kept, and no declaration of it
+-- the name behind these items is kept, and no declaration of it, whose scope begins behind its declarator
 abbrev pub is_missed : NameContext → List Item → ℕ → List ℤ → Bool
 is_missed context before x values =
-    is_kept (truths_at context values) before && not (is_among x (declared_at (truths_at context values) before))
+    is_kept (truths_at context values) before && (is_in_own before x || not (is_among x (declared_at (truths_at context values) before)))
 
 -- the name behind these items is kept, and a declaration of it
 abbrev pub is_met_again : NameContext → List Item → ℕ → List ℤ → Bool
@@ -218,17 +208,17 @@ IsUseFault context before x fault =
     (IsEither (is_feature context x) (fault ≡ Some FeatureInCode)
     (IsEither (is_among x (declared_by before)) (IsWithFirst context.model (is_missed context before x) Undeclared None fault) (fault ≡ Some (Undeclared None))))
 
--- one more name of this kind, where so many constants or variables are declared
+-- one more name of this kind, where there are so many constants and values, or so many variables
 abbrev pub full_fault : Bool → ℕ → ℕ → Option FileCode
-full_fault true constants variables = if nat_le 16 constants then Some TooManyConstants else None
-full_fault false constants variables = if nat_le 16 variables then Some TooManyVariables else None
+full_fault true others variables = if nat_le 16 others then Some TooManyConstants else None
+full_fault false others variables = if nat_le 16 variables then Some TooManyVariables else None
 
--- a name is a feature's, or it is new and the 17th of its kind
+-- a name is a feature's, or it is new and the 17th of its kind, where a constant is counted with the features that are used as values
 abbrev pub new_name_fault : NameContext → List Item → ℕ → Option FileCode
 new_name_fault context before x =
     if is_feature context x then Some FeatureInCode
     else (if is_among x (declared_by before) then None
-    else full_fault (is_constant (kind_after kinds.Variable before)) (length (constants_of before)) (length (variables_of before)))
+    else full_fault (is_constant (kind_after kinds.Variable before)) (length (constants_of before) + length (values_of context before)) (length (variables_of before)))
 
 -- where a name is declared: an earlier declaration of it is kept too at some configuration, or it is a feature's or the 17th
 abbrev pub IsDeclarationFault : NameContext → List Item → ℕ → Option FileCode → Type 0
@@ -249,10 +239,14 @@ abbrev pub IsCallFault : NameContext → List Item → ℕ → Option FileCode �
 IsCallFault context before k fault =
     IsEither (is_among k (callable_by (stands_behind is_equals before) before)) (IsWithFirst context.model (is_uncallable context before k) Undeclared None fault) (fault ≡ Some (Undeclared None))
 
+-- a name behind these items is used: it stands in `main`, and not where it is declared
+abbrev pub is_used_behind : List Item → Bool
+is_used_behind before = has_main before && not (declares_behind before)
+
 -- the fault of an item behind these
 abbrev pub IsNameFault : NameContext → List Item → Sign → Option FileCode → Type 0
 IsNameFault context before (signs.Name x) fault =
-    IsEither (has_main before) (IsUseFault context before x fault) (IsDeclarationFault context before x fault)
+    IsEither (is_used_behind before) (IsUseFault context before x fault) (IsDeclarationFault context before x fault)
 IsNameFault context before (signs.Function k) fault =
     IsEither (has_main before) (IsCallFault context before k fault) (IsPrototypeFault context before k fault)
 IsNameFault context before _ fault = fault ≡ None

@@ -130,14 +130,15 @@ impl Constants {
         }
     }
 
-    /// Goes on behind an item, behind others of which this is seen: a name that is declared with `const` or `enum`, or by
+    /// Goes on behind an item, behind others of which this is seen: a name that is declared, with `const` or `enum`, or by
     /// `#define`, is a constant's.
     pub(crate) fn follow(&mut self, alloc: Global, seen: &Seen, item: Item) -> Result<(), NoMemory>
         ensures { (before : List items.Item) → judging.IsSeen before seen.now
             → judging.AreHeld before self.old
             → OnOk result (judging.AreHeld (before ++ item ∷ []) self.new) }
     {
-        let is_constant = self.track.is_constant() && !seen.in_main;
+        let is_used = seen.uses_next(self.track);
+        let is_constant = self.track.is_constant() && !is_used;
         declare_constant(
             alloc,
             &mut self.declarations,

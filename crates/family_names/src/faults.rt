@@ -1,12 +1,15 @@
 //! The fault of a name, by what is known of the items before it.
 #![tactic(auto)]
 
-ghost use Rattle.std.specs.Prelude.{◌≡◌, ℤ, true, false, not, ◌&&◌, List, length, IfOk, OnOk};
+ghost use Rattle.std.specs.Prelude.{◌≡◌, ◌+◌, ℤ, true, false, not, ◌&&◌, List, [], length, None, IfOk, OnOk};
 ghost use Rattle.cpp_conditions.specs.Numbering.{vector_at};
 ghost use Rattle.cpp_conditions.specs.Propositions.{IsBelow, true_on};
 ghost use Rattle.cpp_conditions.specs.View.{formula};
+ghost use Rattle.fam_outer.specs.declared.faults.FileCode.TheVariants.{Undeclared};
 ghost use Rattle.atom_solver.specs.Solutions.{Finds};
-ghost use Rattle.family_names.specs.Names.{is_among, with_number, full_fault, test_count};
+ghost use Rattle.c_grammar.specs.declared.items.Item as items;
+ghost use Rattle.c_grammar.specs.Changes as changes;
+ghost use Rattle.family_names.specs.Names.{is_among, with_number, full_fault, test_count, is_used_behind, IsWithFirst};
 ghost use Rattle.family_names.specs.NameContexts.{plain, IsFit};
 ghost use Rattle.family_names.specs.Judging as judging;
 
@@ -16,6 +19,7 @@ use crate::groups::Groups;
 use crate::name_context::NameContext;
 use crate::questions::keeping;
 use crate::values::{Used, use_value};
+use c_grammar::Track;
 use cpp_conditions::Formula;
 use cpp_conditions::formulas::{both, negation};
 use fam_outer::{FileCode, MOST_CONSTANTS, MOST_NAMES, NoMemory};
@@ -33,6 +37,18 @@ pub(crate) struct Seen {
     pub(crate) variables: Vec<u32>,
     pub(crate) declarations: Vec<Declaration>,
     pub(crate) functions: Functions,
+}
+
+impl Seen {
+    /// Whether a name that comes next is used: it stands in `main`, and not where a name is declared.
+    #[tactic(auto, using(crate::proofs::Walking::used_next))]
+    pub(crate) fn uses_next(&self, track: Track) -> bool
+        ensures { (before : List items.Item) → judging.IsSeen before self.now
+            → changes.IsTrack before track
+            → result ≡ is_used_behind before }
+    {
+        self.in_main && !track.declares()
+    }
 }
 
 /// Whether a number is among these.
@@ -132,7 +148,7 @@ fn has_settled(settled: &[Declaration], name: u32) -> bool {
     settled.iter().any(|declaration| declaration.name == name)
 }
 
-/// The fault of a use of a name that is declared; without one it is settled that a declaration is kept wherever the name
+/// The fault of a use of a name that is declared, behind its declarator; without one it is settled that a declaration is kept wherever the name
 /// is. Where that is clear, nothing is asked; and the first question of a name is whether it is so everywhere.
 fn missing_fault(
     alloc: Global,
@@ -165,19 +181,37 @@ fn missing_fault(
     }
 }
 
-/// The fault of a use.
+/// The fault of a use of a name in its own declarator, where the scope of no declaration of it has begun.
+fn own_fault(
+    alloc: Global,
+    context: &NameContext<'_>,
+    groups: &Groups,
+    name: u32,
+) -> Result<Option<FileCode>, NoMemory>
+    requires { IsFit (plain context.now) }
+    ensures { IfOk result (λ fault. IsWithFirst context.now.model.now
+        (judging.is_missed (plain context.now) groups.now [] name) Undeclared None fault) }
+{
+    match first_so(alloc, context, groups, &[], Question::Missed, name)? {
+        Some(config) => Ok(Some(FileCode::Undeclared(Some(config.values)))),
+        None => Ok(None),
+    }
+}
+
+/// The fault of a use, in the name's own declarator or not.
 pub(crate) fn use_fault(
     alloc: Global,
     context: &NameContext<'_>,
     seen: &Seen,
     used: &mut Used,
     settled: &mut Vec<Declaration>,
+    is_own: bool,
     name: u32,
 ) -> Result<Option<FileCode>, NoMemory>
     requires { IsFit (plain context.now) }
     ensures { used.old.tests ≡ test_count (plain context.now) used.old.names.items
         → judging.AreSettled (plain context.now) seen.now.declarations.items settled.old.items
-        → IfOk result (λ fault. judging.Uses (plain context.now) seen.now used.old settled.new.items name used.new fault) }
+        → IfOk result (λ fault. judging.Uses (plain context.now) seen.now used.old settled.new.items is_own name used.new fault) }
 {
     if context.is_value(name) {
         return use_value(context, seen.constants.len(), used, name);
@@ -188,15 +222,24 @@ pub(crate) fn use_fault(
     if !contains(&seen.names, name) {
         return Ok(Some(FileCode::Undeclared(None)));
     }
+    if is_own {
+        return own_fault(alloc, context, &seen.groups, name);
+    }
     missing_fault(alloc, context, seen, settled, name)
 }
 
-/// The fault of one more name of a kind, where so many constants and variables are declared.
-fn full_fault(is_constant: bool, constants: usize, variables: usize) -> Option<FileCode>
-    ensures { result ≡ full_fault is_constant constants variables }
+/// The fault of one more name of a kind, where so many constants and variables are declared, and so many features are used as
+/// values.
+fn full_fault(
+    is_constant: bool,
+    constants: usize,
+    values: usize,
+    variables: usize,
+) -> Option<FileCode>
+    ensures { result ≡ full_fault is_constant (constants + values) variables }
 {
     if is_constant {
-        if constants >= MOST_CONSTANTS {
+        if constants.saturating_add(values) >= MOST_CONSTANTS {
             Some(FileCode::TooManyConstants)
         } else {
             None
@@ -209,14 +252,15 @@ fn full_fault(is_constant: bool, constants: usize, variables: usize) -> Option<F
 }
 
 /// The fault of a declaration, as a constant or a variable, whose name no declaration before it has at the same
-/// configuration.
+/// configuration, where so many features are used as values.
 fn new_name_fault(
     context: &NameContext<'_>,
     seen: &Seen,
+    values: usize,
     is_constant: bool,
     name: u32,
 ) -> Option<FileCode>
-    ensures { result ≡ judging.new_fault (plain context.now) seen.now is_constant name }
+    ensures { result ≡ judging.new_fault (plain context.now) seen.now values is_constant name }
 {
     if context.is_feature(name) {
         return Some(FileCode::FeatureInCode);
@@ -224,7 +268,8 @@ fn new_name_fault(
     if contains(&seen.names, name) {
         return None;
     }
-    full_fault(is_constant, seen.constants.len(), seen.variables.len())
+    let constants = seen.constants.len();
+    full_fault(is_constant, constants, values, seen.variables.len())
 }
 
 /// The fault of a declaration.
@@ -232,19 +277,20 @@ fn declaration_fault(
     alloc: Global,
     context: &NameContext<'_>,
     seen: &Seen,
+    values: usize,
     is_constant: bool,
     name: u32,
 ) -> Result<Option<FileCode>, NoMemory>
     requires { IsFit (plain context.now) }
     ensures { judging.AreNamed seen.now
-        → IfOk result (λ fault. judging.IsAgain (plain context.now) seen.now is_constant name fault) }
+        → IfOk result (λ fault. judging.IsAgain (plain context.now) seen.now values is_constant name fault) }
 {
     if !contains(&seen.names, name) {
-        return Ok(new_name_fault(context, seen, is_constant, name));
+        return Ok(new_name_fault(context, seen, values, is_constant, name));
     }
     match first_of_name(alloc, context, seen, Question::MetAgain, name)? {
         Some(config) => Ok(Some(FileCode::Twice(Some(config.values)))),
-        None => Ok(new_name_fault(context, seen, is_constant, name)),
+        None => Ok(new_name_fault(context, seen, values, is_constant, name)),
     }
 }
 
@@ -285,19 +331,20 @@ fn add(alloc: Global, seen: &mut Seen, is_constant: bool, name: u32) -> Result<(
     Ok(())
 }
 
-/// The fault of a declaration, as a constant or a variable; without one it is added.
+/// The fault of a declaration, as a constant or a variable, where so many features are used as values; without one it is added.
 pub(crate) fn declare(
     alloc: Global,
     context: &NameContext<'_>,
     seen: &mut Seen,
+    values: usize,
     is_constant: bool,
     name: u32,
 ) -> Result<Option<FileCode>, NoMemory>
     requires { IsFit (plain context.now) }
     ensures { judging.AreNamed seen.old
-        → IfOk result (λ fault. judging.Declares (plain context.now) seen.old is_constant name seen.new fault) }
+        → IfOk result (λ fault. judging.Declares (plain context.now) seen.old values is_constant name seen.new fault) }
 {
-    let fault = declaration_fault(alloc, context, seen, is_constant, name)?;
+    let fault = declaration_fault(alloc, context, seen, values, is_constant, name)?;
     if fault.is_none() {
         add(alloc, seen, is_constant, name)?;
     }

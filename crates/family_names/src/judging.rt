@@ -8,8 +8,9 @@ ghost use Rattle.cpp_conditions.specs.Propositions.{IsBelow};
 ghost use Rattle.cpp_conditions.specs.View.{formula};
 ghost use Rattle.cpp_groups.specs.Kept.{sections_after};
 ghost use Rattle.c_grammar.specs.declared.items.Item as items;
-ghost use Rattle.c_grammar.specs.Constants as constants;
+ghost use Rattle.c_grammar.specs.Changes as changes;
 ghost use Rattle.c_grammar.specs.Kept.{directive_of};
+ghost use Rattle.c_grammar.specs.Locals.{is_in_own};
 ghost use Rattle.family_names.specs.Groups.{sections};
 ghost use Rattle.family_names.specs.Names.{IsFirstNameFault};
 ghost use Rattle.family_names.specs.NameContexts.{plain, IsFit};
@@ -52,6 +53,17 @@ fn pass(groups: &mut Groups, sign: Sign) -> Result<(), NoMemory>
     }
 }
 
+/// Whether a name that comes next stands in its own declarator.
+fn is_in_own(track: Track, name: u32) -> bool
+    ensures { (before : List items.Item) → changes.IsTrack before track
+        → result ≡ is_in_own before name }
+{
+    match track.open() {
+        Some(open) => name == open,
+        None => false,
+    }
+}
+
 /// The fault of an item, of which the items before it tell this; without one it is seen.
 fn judge(
     alloc: Global,
@@ -66,7 +78,7 @@ fn judge(
     ensures { (before : List items.Item) → judging.IsSeen before seen.old
         → judging.AreUsed (plain context.now) before used.old
         → judging.AreSettled (plain context.now) seen.old.declarations.items settled.old.items
-        → constants.IsTrack before track
+        → changes.IsTrack before track
         → IfOk result (λ fault. judging.Judges (plain context.now) before sign seen.new used.new settled.new.items fault) }
 {
     match sign {
@@ -75,10 +87,12 @@ fn judge(
             Ok(None)
         }
         Sign::Name(number) => {
-            if seen.in_main {
-                use_fault(alloc, context, seen, used, settled, number)
+            if seen.uses_next(track) {
+                let is_own = is_in_own(track, number);
+                use_fault(alloc, context, seen, used, settled, is_own, number)
             } else {
-                declare(alloc, context, seen, track.is_constant(), number)
+                let values = used.names.len();
+                declare(alloc, context, seen, values, track.is_constant(), number)
             }
         }
         Sign::Function(number) => {
@@ -101,29 +115,32 @@ fn judge(
 
 /// The first fault of a name among the items of a file, with its place; at one name it is the first of these.
 ///
-/// - F13: a name is used, and no declaration in the file has it; or some valid configuration keeps the name and no
-///   declaration of it, and then with the values of the least one (ISO/IEC 9899:2011, 6.5.1). So it is of a function that is
-///   called, where a declaration with `void` doesn't count if a value is wanted (6.5.2.2).
+/// - F13: a name is used, and no declaration before it has it; or some valid configuration keeps the name and no declaration
+///   of it whose scope has begun, and then with the values of the least one (ISO/IEC 9899:2011, 6.5.1). So it is of a
+///   function that is called, where a declaration with `void` doesn't count if a value is wanted (6.5.2.2).
 /// - F14: a name is declared, and some valid configuration keeps it and an earlier declaration of it, with the values of
 ///   the least one (6.7). So it is of a function, where only a declaration with another result counts: `void` or a value.
 /// - F15: a feature's name is declared, as a name or a function, or a Boolean feature's is used.
-/// - F17: a 17th variable is declared.
+/// - F17: a 17th variable is declared; those of `main` count too.
 /// - F22: an integer feature is used as a value for the first time, and more than 256 tests tell its value and those of the
 ///   features that are used before it.
 /// - F23: a name is assigned, raised, lowered or read from input, and some valid configuration keeps it and a declaration
 ///   of it with `const` or `enum`, or by `#define`; or keeps it, and it is an integer feature's; no values are told
 ///   (6.7.2.2, 6.7.3, 6.10.3 and 6.5.16).
-/// - F24: a 17th constant is declared; or an integer feature is used as a value for the first time, and with it there are 17
-///   constants and values.
+/// - F24: a constant is declared, or an integer feature is used as a value for the first time, and with it there are 17 constants
+///   and values.
 ///
-/// Before `main` each name and function is declared, and behind it each is used or called; F13 is said of no feature's name. A
-/// function is declared with `void` directly behind that word, and a value is wanted of it directly behind `=`; it counts as no
-/// variable. A configuration keeps an item where each group around it is the kept one of its section (6.10.1). The formulas'
-/// numbers are below the number of atoms, and the atoms are as for `Prepared::least_where`. It answers an error only for want
-/// of memory.
+/// Before `main` each name and function is declared. In `main` a name is declared behind a word of a type, `const` or a comma,
+/// each other name is used, and each function is called; F13 is said of no feature's name. The scope of a name begins behind
+/// its declarator and initialiser, since it has no value before (`int x = x;` is F13), and goes on to the end of `main`,
+/// whatever block it is declared in: so it can be declared once in each configuration. A function is declared with `void`
+/// directly behind that word, and a value is wanted of it directly behind `=`; it counts as no variable. A configuration keeps
+/// an item where each group around it is the kept one of its section (6.10.1). The formulas' numbers are below the number of
+/// atoms, and the atoms are as for `Prepared::least_where`. It answers an error only for want of memory.
 ///
 /// The solver is asked once for each name and list of groups around it, and once for each call, and not where a declaration
-/// stands in the outermost of those groups. Otherwise the time is that of the items by the declarations and these answers.
+/// stands in the outermost of those groups; and once for each use of a name in its own declarator. Otherwise the time is that
+/// of the items by the declarations and these answers.
 pub fn first_name_fault(
     alloc: Global,
     context: &NameContext<'_>,

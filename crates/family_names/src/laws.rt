@@ -3,8 +3,9 @@
 
 ghost use Rattle.family_names.specs.Laws.{NamesAreJudgedOnce, PlainFunctions, PlainNames};
 
-/// Behind items without group directives the fault of a name is that of a file without groups: a use has no example, and a
-/// second declaration has the least valid configuration, if there is one.
+/// Behind items without group directives the fault of a name is that of a file without groups: a use has no example, unless it
+/// stands in the name's own declarator; there, and at a second declaration, it is the least valid configuration, if there is
+/// one.
 #[tactic(auto, using(crate::proofs::Plain::plain_names))]
 pub fn plain_names()
     ensures { PlainNames }

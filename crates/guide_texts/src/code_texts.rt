@@ -45,7 +45,7 @@ pub const FILE_CODES: [(&str, &str); 23] = [
     ),
     (
         "F13",
-        "F13: A file is refused.\nCause: a name that is used and nowhere declared; at it. Or: a name that some\nvalid configuration keeps without a declaration of it; the example is the least\nsuch configuration.\nWhat to do: declare it, before `main`. Or: declare it for all of them, or use it\nwithin the group.\n",
+        "F13: A file is refused.\nCause: a name that is used where no declaration of it stands before, or in its\nown declarator; at it. Or: a name that some valid configuration keeps without a\ndeclaration of it; the example is the least such configuration.\nWhat to do: declare it above. Or: declare it for all of them, or use it within\nthe group.\n",
     ),
     (
         "F14",
@@ -61,7 +61,7 @@ pub const FILE_CODES: [(&str, &str); 23] = [
     ),
     (
         "F24",
-        "F24: A file is refused.\nCause: the first declaration of the 17th constant; at its name. Or: the first\nuse in code of a number feature that is the 17th of the constants and of the\nfeatures that stand in code; at it.\nWhat to do: write the number where it is used, or cut the program into parts.\nOr: write the numbers of constants where they are used.\n",
+        "F24: A file is refused.\nCause: the first declaration of the 17th constant; at its name. Or: the first\nuse in code of a number feature that is the 17th of the constants and of the\nfeatures that stand in code, or the first declaration, in `main`, of a constant\nthat is so; at it.\nWhat to do: write the number where it is used, or cut the program into parts.\nOr: write the numbers of constants where they are used.\n",
     ),
     (
         "F5",

@@ -1,9 +1,9 @@
 -- The stages of a file: which function takes the step of a state.
 use Rattle.std.specs.Prelude.{ℕ}
-use Rattle.c_grammar.specs.Machine.{ReadingState, Outside, AfterStatic, AfterExtern, AfterConst, AfterEnum, AfterVoidType, AfterType, Declaring, Bare, Starting, Negating, Started, Listing, Enumerated, AfterDefine, Defining, NegativeDefining, Enclosing, NegativeEnclosing, Enclosed, Parameters, InParameters, AfterVoid, AfterParameters, Ready, Ended, Wants, Has, Counting, Named, Opens, VoidComes, VoidCloses, CallComes, CallOpens, CallCloses, Finishing, Returning, Returned, Closing, Over}
+use Rattle.c_grammar.specs.Machine.{ReadingState, Outside, AfterStatic, AfterExtern, AfterConst, AfterEnum, AfterVoidType, AfterType, Declaring, Bare, Starting, Negating, Started, Listing, Enumerated, AfterDefine, Defining, NegativeDefining, Enclosing, NegativeEnclosing, Enclosed, Parameters, InParameters, AfterVoid, AfterParameters, Ready, LocalConst, LocalType, NextLocal, LocalNamed, Ended, Wants, Has, Counting, Named, Opens, VoidComes, VoidCloses, CallComes, CallOpens, CallCloses, Finishing, Returning, Returned, Closing, Over}
 
--- 0 before a declarator, 1 in it, 2 in a definition, 3 at a statement, 4 at an expression, 5 in a call, 6 in the
--- parentheses of a function that is declared or at the end of a file
+-- 0 before a declarator, 1 in it, 2 in a definition, 3 at a statement, 4 in a declaration in `main`, 5 at an expression,
+-- 6 in a call, 7 in the parentheses of a function that is declared or at the end of a file
 abbrev pub stage : ReadingState → ℕ
 stage (Outside secs ds) = 0
 stage (AfterStatic secs ds) = 0
@@ -29,20 +29,24 @@ stage (Ready outer) = 3
 stage (Ended outer c) = 3
 stage (Counting p u outer) = 3
 stage (Named p x outer) = 3
-stage (Finishing outer c) = 3
-stage (Wants fs u) = 4
-stage (Has fs u e) = 4
-stage (Opens u) = 4
-stage (VoidComes p outer) = 5
-stage (VoidCloses p outer) = 5
-stage (CallComes p outer) = 5
-stage (CallOpens outer c) = 5
-stage (CallCloses outer c) = 5
-stage (Parameters aim) = 6
-stage (InParameters aim) = 6
-stage (AfterVoid aim) = 6
-stage (AfterParameters aim) = 6
-stage (Returning p ds made) = 6
-stage (Returned ds made) = 6
-stage (Closing ds made) = 6
-stage (Over f parts) = 6
+stage (Finishing made) = 3
+stage (LocalConst outer) = 4
+stage (LocalType kind words outer) = 4
+stage (NextLocal kind outer) = 4
+stage (LocalNamed kind p x outer) = 4
+stage (Wants fs u) = 5
+stage (Has fs u e) = 5
+stage (Opens u) = 5
+stage (VoidComes p outer) = 6
+stage (VoidCloses p outer) = 6
+stage (CallComes p outer) = 6
+stage (CallOpens made) = 6
+stage (CallCloses made) = 6
+stage (Parameters aim) = 7
+stage (InParameters aim) = 7
+stage (AfterVoid aim) = 7
+stage (AfterParameters aim) = 7
+stage (Returning p ds made) = 7
+stage (Returned ds made) = 7
+stage (Closing ds made) = 7
+stage (Over f parts) = 7

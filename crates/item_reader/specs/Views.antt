@@ -8,12 +8,12 @@ use Rattle.c_grammar.specs.declared.items.Sign.{Sign}
 use Rattle.c_grammar.specs.declared.items.Sign.TheVariants as signs
 use Rattle.c_grammar.specs.Grammar as grammar
 use Rattle.c_grammar.specs.Machine as machine
-use Rattle.item_reader.specs.declared.states.Prefix.{Prefix}
-use Rattle.item_reader.specs.declared.states.Prefix.TheVariants as prefixes
-use Rattle.item_reader.specs.declared.states.Update.{Update}
-use Rattle.item_reader.specs.declared.states.Update.TheVariants as updates
-use Rattle.item_reader.specs.declared.states.Count.{Count}
-use Rattle.item_reader.specs.declared.states.Count.TheVariants as counts
+use Rattle.item_reader.specs.declared.words.Prefix.{Prefix}
+use Rattle.item_reader.specs.declared.words.Prefix.TheVariants as prefixes
+use Rattle.item_reader.specs.declared.words.Update.{Update}
+use Rattle.item_reader.specs.declared.words.Update.TheVariants as updates
+use Rattle.item_reader.specs.declared.words.Count.{Count}
+use Rattle.item_reader.specs.declared.words.Count.TheVariants as counts
 use Rattle.item_reader.specs.declared.states.Frame.{Frame}
 use Rattle.item_reader.specs.declared.states.Frame.TheVariants as frames
 use Rattle.item_reader.specs.declared.states.Link.{Link}
@@ -21,14 +21,16 @@ use Rattle.item_reader.specs.declared.states.Stack.{Stack}
 use Rattle.item_reader.specs.declared.states.Stack.TheVariants as stacks
 use Rattle.item_reader.specs.declared.states.Purpose.{Purpose}
 use Rattle.item_reader.specs.declared.states.Purpose.TheVariants as purposes
+use Rattle.item_reader.specs.declared.states.Pending.{Pending}
+use Rattle.item_reader.specs.declared.states.Pending.TheVariants as pendings
 use Rattle.item_reader.specs.declared.states.Sections.{Sections}
 use Rattle.item_reader.specs.declared.states.Sections.TheVariants as sections
-use Rattle.item_reader.specs.declared.states.Leading.{Leading}
-use Rattle.item_reader.specs.declared.states.Leading.TheVariants as leadings
-use Rattle.item_reader.specs.declared.states.Qualifier.{Qualifier}
-use Rattle.item_reader.specs.declared.states.Qualifier.TheVariants as qualifiers
-use Rattle.item_reader.specs.declared.states.TypeWords.{TypeWords}
-use Rattle.item_reader.specs.declared.states.TypeWords.TheVariants as type_words
+use Rattle.item_reader.specs.declared.words.Leading.{Leading}
+use Rattle.item_reader.specs.declared.words.Leading.TheVariants as leadings
+use Rattle.item_reader.specs.declared.words.Qualifier.{Qualifier}
+use Rattle.item_reader.specs.declared.words.Qualifier.TheVariants as qualifiers
+use Rattle.item_reader.specs.declared.words.TypeWords.{TypeWords}
+use Rattle.item_reader.specs.declared.words.TypeWords.TheVariants as type_words
 use Rattle.item_reader.specs.declared.states.Aim.{Aim}
 use Rattle.item_reader.specs.declared.states.Aim.TheVariants as aims
 use Rattle.item_reader.specs.declared.states.Tailing.{Tailing}
@@ -76,12 +78,22 @@ as_stack (stacks.ThenOf' place test q outer) = machine.ThenOf place (term test) 
 as_stack (stacks.ElseOf' place test first q outer) = machine.ElseOf place (term test) (code first.items) (as_stack outer)
 as_stack (stacks.LoopOf' place test q outer) = machine.LoopOf place (term test) (as_stack outer)
 
+abbrev pub as_qualifier : Qualifier → grammar.Qualifier
+as_qualifier qualifiers.Unqualified = grammar.Unqualified
+as_qualifier qualifiers.Constant = grammar.Constant
+as_qualifier (qualifiers.Counted last) = grammar.Counted last
+
 abbrev pub as_purpose : Purpose → machine.Use
 as_purpose (purposes.ToAssign place target outer) = machine.ToAssign place target (as_stack outer)
+as_purpose (purposes.ToInitialise kind place target outer) = machine.ToInitialise (as_qualifier kind) place target (as_stack outer)
 as_purpose (purposes.ToUpdate place target update outer) = machine.ToUpdate place target (as_update update) (as_stack outer)
 as_purpose (purposes.ToAssert place outer) = machine.ToAssert place (as_stack outer)
 as_purpose (purposes.ToChoose place outer) = machine.ToChoose place (as_stack outer)
 as_purpose (purposes.ToLoop place outer) = machine.ToLoop place (as_stack outer)
+
+abbrev pub as_pending : Pending → machine.Pending
+as_pending (pendings.OfStatement outer statement) = machine.OfStatement (as_stack outer) (front statement Done)
+as_pending (pendings.OfLocal kind outer statement) = machine.OfLocal (as_qualifier kind) (as_stack outer) (front statement Done)
 
 abbrev pub as_sections : Sections → machine.Sections
 as_sections sections.Outermost = machine.Outermost
@@ -93,11 +105,6 @@ as_leading leadings.NoWord = machine.NoWord
 as_leading leadings.StaticWord = machine.StaticWord
 as_leading leadings.ExternWord = machine.ExternWord
 as_leading leadings.ConstWord = machine.ConstWord
-
-abbrev pub as_qualifier : Qualifier → grammar.Qualifier
-as_qualifier qualifiers.Unqualified = grammar.Unqualified
-as_qualifier qualifiers.Constant = grammar.Constant
-as_qualifier (qualifiers.Counted last) = grammar.Counted last
 
 abbrev pub as_words : TypeWords → machine.TypeWords
 as_words type_words.OneInt = machine.OneInt
@@ -144,6 +151,10 @@ as_state (states.InParameters aim) = machine.InParameters (as_aim aim)
 as_state (states.AfterVoid aim) = machine.AfterVoid (as_aim aim)
 as_state (states.AfterParameters aim) = machine.AfterParameters (as_aim aim)
 as_state (states.Ready outer) = machine.Ready (as_stack outer)
+as_state (states.LocalConst outer) = machine.LocalConst (as_stack outer)
+as_state (states.LocalType kind words outer) = machine.LocalType (as_qualifier kind) (as_words words) (as_stack outer)
+as_state (states.NextLocal kind outer) = machine.NextLocal (as_qualifier kind) (as_stack outer)
+as_state (states.LocalNamed kind place target outer) = machine.LocalNamed (as_qualifier kind) place target (as_stack outer)
 as_state (states.Ended outer statement) = machine.Ended (as_stack outer) (front statement Done)
 as_state (states.Wants fs purpose) = machine.Wants (as_frames fs.items) (as_purpose purpose)
 as_state (states.Has fs purpose operand) = machine.Has (as_frames fs.items) (as_purpose purpose) (term operand)
@@ -153,9 +164,9 @@ as_state (states.Opens purpose) = machine.Opens (as_purpose purpose)
 as_state (states.VoidComes place outer) = machine.VoidComes place (as_stack outer)
 as_state (states.VoidCloses place outer) = machine.VoidCloses place (as_stack outer)
 as_state (states.CallComes place outer) = machine.CallComes place (as_stack outer)
-as_state (states.CallOpens outer statement) = machine.CallOpens (as_stack outer) (front statement Done)
-as_state (states.CallCloses outer statement) = machine.CallCloses (as_stack outer) (front statement Done)
-as_state (states.Finishing outer statement) = machine.Finishing (as_stack outer) (front statement Done)
+as_state (states.CallOpens pending) = machine.CallOpens (as_pending pending)
+as_state (states.CallCloses pending) = machine.CallCloses (as_pending pending)
+as_state (states.Finishing pending) = machine.Finishing (as_pending pending)
 as_state (states.Returning place ds made) = machine.Returning place ds.items (code made.items)
 as_state (states.Returned ds made) = machine.Returned ds.items (code made.items)
 as_state (states.Closing ds made) = machine.Closing ds.items (code made.items)

@@ -8,7 +8,8 @@ ghost use Rattle.item_reader.specs.Views.{as_qualifier, as_sections, as_state, M
 
 use crate::heads::declaring;
 use crate::sections::guards_of;
-use crate::states::{Qualifier, ReadingState, Sections};
+use crate::states::{ReadingState, Sections};
+use crate::words::Qualifier;
 use c_grammar::Sign;
 use c_tree::{Declared, Guards, Op};
 use fam_outer::NoMemory;

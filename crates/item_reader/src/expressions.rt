@@ -2,15 +2,17 @@
 #![tactic(auto)]
 
 ghost use Rattle.std.specs.Prelude.{◌≡◌, [], ◌∷◌, Some, option_map, IfOk};
-ghost use Rattle.c_tree.specs.Tree.{Done};
+ghost use Rattle.c_tree.specs.Tree.{Assign, Done};
 ghost use Rattle.c_tree.specs.View.{term, front};
 ghost use Rattle.c_grammar.specs.Grammar as grammar;
 ghost use Rattle.c_grammar.specs.Machine as machine;
 ghost use Rattle.c_grammar.specs.declared.items.Sign.TheVariants as signs;
-ghost use Rattle.item_reader.specs.Views.{Moves, as_frame, as_frames, as_purpose, as_state, as_update};
+ghost use Rattle.item_reader.specs.Views.{Moves, as_frame, as_frames, as_purpose, as_stack, as_state, as_update};
 
 use crate::frames::{binary, no_frames, prefix_of, settle, take_frame, tighter, with_frame};
-use crate::states::{Frame, Prefix, Purpose, ReadingState, Stack, Update};
+use crate::stacks::folded;
+use crate::states::{Frame, Pending, Purpose, ReadingState, Stack};
+use crate::words::{Prefix, Update};
 use c_grammar::Sign;
 use c_tree::{Expr, Op, Stmt};
 use fam_outer::{NoMemory, Place};
@@ -54,20 +56,31 @@ fn input_of(mut frames: Vec<Frame>, purpose: Purpose) -> Option<ReadingState>
 fn input_for(purpose: Purpose) -> Option<ReadingState>
     ensures { option_map as_state result ≡ machine.input_of [] (as_purpose purpose) }
 {
-    match purpose {
+    let pending = match purpose {
         Purpose::ToAssign {
             place,
             target,
             outer,
-        } => Some(ReadingState::CallOpens {
+        } => Pending::OfStatement {
             outer,
             statement: Stmt::Input { place, target },
-        }),
+        },
+        Purpose::ToInitialise {
+            kind,
+            place,
+            target,
+            outer,
+        } => Pending::OfLocal {
+            kind,
+            outer,
+            statement: Stmt::Input { place, target },
+        },
         Purpose::ToUpdate { .. }
         | Purpose::ToAssert { .. }
         | Purpose::ToChoose { .. }
-        | Purpose::ToLoop { .. } => None,
-    }
+        | Purpose::ToLoop { .. } => return None,
+    };
+    Some(ReadingState::CallOpens { pending })
 }
 
 /// What a sign leads to where an operand comes.
@@ -138,11 +151,16 @@ fn tested(alloc: Global, purpose: Purpose, test: Expr) -> Result<Option<ReadingS
     ensures { Moves result (machine.tested (as_purpose purpose) (term test)) }
 {
     match purpose {
-        Purpose::ToAssign { .. } | Purpose::ToUpdate { .. } => Ok(None),
-        Purpose::ToAssert { place, outer } => Ok(Some(ReadingState::Finishing {
-            outer,
-            statement: Stmt::Assert { place, test },
-        })),
+        Purpose::ToAssign { .. } | Purpose::ToInitialise { .. } | Purpose::ToUpdate { .. } => {
+            Ok(None)
+        }
+        Purpose::ToAssert { place, outer } => {
+            let pending = Pending::OfStatement {
+                outer,
+                statement: Stmt::Assert { place, test },
+            };
+            Ok(Some(ReadingState::Finishing { pending }))
+        }
         Purpose::ToChoose { place, outer } => {
             let outer = Stack::ThenOf {
                 place,
@@ -182,7 +200,26 @@ fn closed_by(
     }
 }
 
-/// The expression that a statement ends with is whole.
+/// The list with a variable that is declared with this value.
+fn with_local(
+    alloc: Global,
+    place: Place,
+    target: u32,
+    value: Expr,
+    outer: Stack,
+) -> Result<Stack, NoMemory>
+    ensures { IfOk result (λ made. as_stack made
+        ≡ machine.folded (as_stack outer) (Assign place target (term value) Done)) }
+{
+    let statement = Stmt::Assign {
+        place,
+        target,
+        value,
+    };
+    folded(alloc, outer, statement)
+}
+
+/// The expression that a statement or a declaration ends with is whole.
 fn assigned(alloc: Global, purpose: Purpose, value: Expr) -> Result<Option<ReadingState>, NoMemory>
     ensures { Moves result (machine.assigned (as_purpose purpose) (term value)) }
 {
@@ -199,6 +236,15 @@ fn assigned(alloc: Global, purpose: Purpose, value: Expr) -> Result<Option<Readi
                 value,
             },
         })),
+        Purpose::ToInitialise {
+            kind: _kind,
+            place,
+            target,
+            outer,
+        } => {
+            let outer = with_local(alloc, place, target, value, outer)?;
+            Ok(Some(ReadingState::Ready { outer }))
+        }
         Purpose::ToUpdate {
             place,
             target,
@@ -223,6 +269,47 @@ fn ended_by(
 {
     match take_frame(&mut frames) {
         None => assigned(alloc, purpose, operand),
+        Some(_) => Ok(None),
+    }
+}
+
+/// The initialiser of a variable is whole, and another declarator comes.
+fn initialised(
+    alloc: Global,
+    purpose: Purpose,
+    value: Expr,
+) -> Result<Option<ReadingState>, NoMemory>
+    ensures { Moves result (machine.initialised (as_purpose purpose) (term value)) }
+{
+    match purpose {
+        Purpose::ToInitialise {
+            kind,
+            place,
+            target,
+            outer,
+        } => {
+            let outer = with_local(alloc, place, target, value, outer)?;
+            Ok(Some(ReadingState::NextLocal { kind, outer }))
+        }
+        Purpose::ToAssign { .. }
+        | Purpose::ToUpdate { .. }
+        | Purpose::ToAssert { .. }
+        | Purpose::ToChoose { .. }
+        | Purpose::ToLoop { .. } => Ok(None),
+    }
+}
+
+/// A comma behind an operand, with all operators applied.
+fn followed_by(
+    alloc: Global,
+    mut frames: Vec<Frame>,
+    purpose: Purpose,
+    operand: Expr,
+) -> Result<Option<ReadingState>, NoMemory>
+    ensures { Moves result (machine.followed_by (as_frames frames.items) (as_purpose purpose) (term operand)) }
+{
+    match take_frame(&mut frames) {
+        None => initialised(alloc, purpose, operand),
         Some(_) => Ok(None),
     }
 }
@@ -255,6 +342,20 @@ fn ended(
     ended_by(alloc, frames, purpose, operand)
 }
 
+/// A comma behind an operand.
+fn followed(
+    alloc: Global,
+    frames: Vec<Frame>,
+    purpose: Purpose,
+    operand: Expr,
+) -> Result<Option<ReadingState>, NoMemory>
+    ensures { Moves result (machine.have (as_frames frames.items) (as_purpose purpose)
+        (term operand) signs.Comma) }
+{
+    let (frames, operand) = settle(alloc, 6, frames, operand)?;
+    followed_by(alloc, frames, purpose, operand)
+}
+
 /// An operator behind an operand.
 fn operated(
     alloc: Global,
@@ -284,6 +385,7 @@ pub(crate) fn have(
         Sign::Close => closed(alloc, frames, purpose, operand),
         Sign::Oper(op) => operated(alloc, frames, purpose, operand, op),
         Sign::Semicolon => ended(alloc, frames, purpose, operand),
+        Sign::Comma => followed(alloc, frames, purpose, operand),
         _ => Ok(None),
     }
 }

@@ -7,7 +7,8 @@ ghost use Rattle.c_grammar.specs.Machine as machine;
 ghost use Rattle.item_reader.specs.Views.{as_leading, as_qualifier, as_sections, as_state, as_words, is_second_word};
 
 use crate::marks::{at_function, at_void_function};
-use crate::states::{Aim, Leading, Qualifier, ReadingState, Sections, TypeWords};
+use crate::states::{Aim, ReadingState, Sections};
+use crate::words::{Leading, Qualifier, TypeWords};
 use c_grammar::Sign;
 use c_tree::Declared;
 
@@ -191,7 +192,7 @@ fn behind_type(
 }
 
 /// Whether the sign is the second word of a type that has one word so far.
-fn is_second_word(sign: Sign, words: TypeWords) -> bool
+pub(crate) fn is_second_word(sign: Sign, words: TypeWords) -> bool
     ensures { result ≡ is_second_word sign (as_words words) }
 {
     matches!(

@@ -11,6 +11,7 @@ mod groups;
 mod heads;
 mod limits;
 mod lists;
+mod locals;
 mod marks;
 mod parameters;
 mod programs;
@@ -21,6 +22,7 @@ mod statements;
 mod states;
 mod steps;
 pub mod unread;
+mod words;
 
 pub use reading::read_items;
 pub use unread::{Unread, UnreadRefusal};

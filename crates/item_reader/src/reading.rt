@@ -21,9 +21,10 @@ use std::alloc::Global;
 ///
 /// An item is a token or a group directive (`#if`, `#elif`, `#else`, `#endif`) of a C file, and the grammar is that of
 /// `c_grammar`: declarations of `int` variables and of functions outside, which may stand in groups, and then `main`
-/// (ISO/IEC 9899:2011, 6.5 to 6.10.1). Without groups the program is plain, and a variable starts with the value of its last declarator, else with
-/// 0. With groups each group of statements is a `Cond`, and each declarator is kept with the guards of the groups around
-/// it.
+/// (ISO/IEC 9899:2011, 6.5 to 6.10.1). Without groups the program is plain, and a variable starts with the value of its
+/// last declarator outside, else with 0. With groups each group of statements is a `Cond`, and each declarator outside is
+/// kept with the guards of the groups around it. A declarator in `main` is a statement: it assigns its initialiser, and
+/// without one any value, as that of an input is.
 ///
 /// The conditions are that the items name these names alone, that the numbers are from 0 to 2147483647, and that the
 /// places rise. With at most 48 names the program is well formed.

@@ -8,7 +8,8 @@ ghost use Rattle.c_grammar.specs.declared.items.Sign.TheVariants as signs;
 ghost use Rattle.item_reader.specs.Views.{as_sections, as_state, Moves};
 
 use crate::heads::first_word;
-use crate::states::{Leading, ReadingState, Sections};
+use crate::states::{ReadingState, Sections};
+use crate::words::Leading;
 use c_grammar::Sign;
 use c_tree::{Declared, Guard};
 use fam_outer::NoMemory;

@@ -11,8 +11,10 @@ ghost use Rattle.item_reader.specs.Views.{Moves, as_count, as_purpose, as_stack,
 use crate::expressions::{expected, updated};
 use crate::groups::{group_end, last_part, next_part, opened};
 use crate::lists::block;
+use crate::locals::{const_in, type_in};
 use crate::stacks::{else_of, folded};
-use crate::states::{Count, File, Purpose, ReadingState, Stack, Update};
+use crate::states::{File, Pending, Purpose, ReadingState, Stack};
+use crate::words::{Count, TypeWords, Update};
 use c_grammar::Sign;
 use c_tree::{Expr, Stmt};
 use fam_outer::{NoMemory, Place};
@@ -68,12 +70,14 @@ fn block_in(alloc: Global, outer: Stack, place: Place) -> Result<Option<ReadingS
 
 /// A call whose value is dropped.
 fn called(outer: Stack, place: Place) -> Option<ReadingState>
-    ensures { option_map as_state result ≡ Some (machine.CallOpens (as_stack outer) (Skip place Done)) }
+    ensures { option_map as_state result
+        ≡ Some (machine.CallOpens (machine.OfStatement (as_stack outer) (Skip place Done))) }
 {
-    Some(ReadingState::CallOpens {
+    let pending = Pending::OfStatement {
         outer,
         statement: Stmt::Skip { place },
-    })
+    };
+    Some(ReadingState::CallOpens { pending })
 }
 
 /// `++` or `--`: the name of a variable comes.
@@ -110,6 +114,10 @@ pub(crate) fn begin(
             target,
             outer,
         })),
+        Sign::Const => Ok(const_in(outer)),
+        Sign::Int => Ok(type_in(outer, TypeWords::OneInt)),
+        Sign::Int32 => Ok(type_in(outer, TypeWords::WholeType)),
+        Sign::Signed => Ok(type_in(outer, TypeWords::OneSigned)),
         Sign::Semicolon => Ok(Some(ReadingState::Ended {
             outer,
             statement: Stmt::Skip { place },
@@ -181,11 +189,12 @@ fn changed_by_one(
     count: Count,
     outer: Stack,
 ) -> Result<Option<ReadingState>, NoMemory>
-    ensures { Moves result (Some (machine.Finishing (as_stack outer)
-        (grammar.changed_by_one place target (as_count count)))) }
+    ensures { Moves result (Some (machine.Finishing (machine.OfStatement (as_stack outer)
+        (grammar.changed_by_one place target (as_count count))))) }
 {
     let statement = updated(alloc, place, target, by_one(count), Expr::Number(1))?;
-    Ok(Some(ReadingState::Finishing { outer, statement }))
+    let pending = Pending::OfStatement { outer, statement };
+    Ok(Some(ReadingState::Finishing { pending }))
 }
 
 /// What a sign leads to behind `++` or `--` at the front of a statement.

@@ -1,33 +1,9 @@
 //! What is open between two items.
 #![tactic(auto)]
 
+use crate::words::{Count, Leading, Prefix, Qualifier, TypeWords, Update};
 use c_tree::{Declared, Expr, Guard, Op, Stmt};
 use fam_outer::Place;
-
-/// A prefix of an expression.
-#[derive(Clone, Copy, Drop)]
-pub(crate) enum Prefix {
-    Positive,
-    Negative,
-    Inverse,
-}
-
-/// What a compound assignment, as `+=`, makes of a variable and an expression.
-#[derive(Clone, Copy, Drop)]
-pub(crate) enum Update {
-    Sum,
-    Difference,
-    Product,
-    Quotient,
-    Remainder,
-}
-
-/// `++` and `--`.
-#[derive(Clone, Copy, Drop)]
-pub(crate) enum Count {
-    Raise,
-    Lower,
-}
 
 /// What waits for an operand: a parenthesis, a prefix, or an operator behind its left operand.
 #[derive(Drop)]
@@ -88,10 +64,16 @@ pub(crate) enum Stack {
     },
 }
 
-/// What an expression is for.
+/// What an expression is for. The initialiser of a variable that `main` declares has what its declaration declares.
 #[derive(Drop)]
 pub(crate) enum Purpose {
     ToAssign {
+        place: Place,
+        target: u32,
+        outer: Stack,
+    },
+    ToInitialise {
+        kind: Qualifier,
         place: Place,
         target: u32,
         outer: Stack,
@@ -116,6 +98,20 @@ pub(crate) enum Purpose {
     },
 }
 
+/// What is read but for its end: a statement, or a declarator in `main`.
+#[derive(Drop)]
+pub(crate) enum Pending {
+    OfStatement {
+        outer: Stack,
+        statement: Stmt,
+    },
+    OfLocal {
+        kind: Qualifier,
+        outer: Stack,
+        statement: Stmt,
+    },
+}
+
 /// The groups around declarations: a part with a condition, with the guards before it, and the last part with its guards.
 #[derive(Drop)]
 pub(crate) enum Sections {
@@ -129,32 +125,6 @@ pub(crate) enum Sections {
         guards: Vec<Guard>,
         outer: Box<Sections>,
     },
-}
-
-/// What stands before the type of a declaration.
-#[derive(Clone, Copy, Drop)]
-pub(crate) enum Leading {
-    NoWord,
-    StaticWord,
-    ExternWord,
-    ConstWord,
-}
-
-/// What a declaration declares: variables, constants, or constants that are counted, of which the last one before has this
-/// value.
-#[derive(Clone, Copy, Drop)]
-pub(crate) enum Qualifier {
-    Unqualified,
-    Constant,
-    Counted(i64),
-}
-
-/// The words of a type so far: `int`, `signed`, or all.
-#[derive(Clone, Copy, Drop)]
-pub(crate) enum TypeWords {
-    OneInt,
-    OneSigned,
-    WholeType,
 }
 
 /// What the parentheses behind the name of a function are for.
@@ -314,6 +284,27 @@ pub(crate) enum ReadingState {
     Ready {
         outer: Stack,
     },
+    /// Behind `const` before the type of a declaration in `main`.
+    LocalConst {
+        outer: Stack,
+    },
+    /// Behind a word of its type.
+    LocalType {
+        kind: Qualifier,
+        words: TypeWords,
+        outer: Stack,
+    },
+    /// The name of a variable comes, and behind it.
+    NextLocal {
+        kind: Qualifier,
+        outer: Stack,
+    },
+    LocalNamed {
+        kind: Qualifier,
+        place: Place,
+        target: u32,
+        outer: Stack,
+    },
     /// A statement has ended, and an `else` may come.
     Ended {
         outer: Stack,
@@ -360,19 +351,16 @@ pub(crate) enum ReadingState {
         place: Place,
         outer: Stack,
     },
-    /// Behind the name of a function that is called, and behind its parenthesis. The call makes this statement.
+    /// Behind the name of a function that is called, and behind its parenthesis. The call makes what is pending.
     CallOpens {
-        outer: Stack,
-        statement: Stmt,
+        pending: Pending,
     },
     CallCloses {
-        outer: Stack,
-        statement: Stmt,
+        pending: Pending,
     },
-    /// The semicolon of a statement comes.
+    /// The semicolon of a statement comes, or the end of a declarator.
     Finishing {
-        outer: Stack,
-        statement: Stmt,
+        pending: Pending,
     },
     /// Behind `return`, behind its number, and before the closing brace of `main`.
     Returning {

@@ -17,11 +17,13 @@ use crate::expressions::{expected, have, want};
 use crate::heads::{
     after_enum, after_type, behind_extern, behind_static, behind_void, declaring, first_word,
 };
+use crate::locals::{const_word, finishing, local_named, local_type, next_local};
 use crate::marks::{at_close, at_function, at_open, at_semicolon, at_void};
 use crate::parameters::{after_parameters, in_parameters};
 use crate::sections::outside;
 use crate::statements::{begin, counting, named, on};
-use crate::states::{Leading, ReadingState, Stack};
+use crate::states::{Pending, ReadingState, Stack};
+use crate::words::Leading;
 use c_grammar::Sign;
 use c_tree::Stmt;
 use fam_outer::{NoMemory, Place};
@@ -184,9 +186,33 @@ fn step_statement(
             target,
             outer,
         } => named(alloc, place, target, outer, sign),
-        ReadingState::Finishing { outer, statement } => {
-            Ok(at_semicolon(ReadingState::Ended { outer, statement }, sign))
+        ReadingState::Finishing { pending } => finishing(alloc, pending, sign),
+        other => step_local(alloc, other, place, sign),
+    }
+}
+
+/// The step of a state from a declaration in `main` on.
+fn step_local(
+    alloc: Global,
+    state: ReadingState,
+    place: Place,
+    sign: Sign,
+) -> Result<Option<ReadingState>, NoMemory>
+    requires { 4 ≤ stage (as_state state) }
+    ensures { Moves result (machine.step (as_state state) place sign) }
+{
+    match state {
+        ReadingState::LocalConst { outer } => Ok(const_word(outer, sign)),
+        ReadingState::LocalType { kind, words, outer } => {
+            Ok(local_type(kind, outer, place, sign, words))
         }
+        ReadingState::NextLocal { kind, outer } => Ok(next_local(kind, outer, place, sign)),
+        ReadingState::LocalNamed {
+            kind,
+            place,
+            target,
+            outer,
+        } => local_named(alloc, kind, place, target, outer, sign),
         other => step_operand(alloc, other, place, sign),
     }
 }
@@ -198,7 +224,7 @@ fn step_operand(
     place: Place,
     sign: Sign,
 ) -> Result<Option<ReadingState>, NoMemory>
-    requires { 4 ≤ stage (as_state state) }
+    requires { 5 ≤ stage (as_state state) }
     ensures { Moves result (machine.step (as_state state) place sign) }
 {
     match state {
@@ -223,7 +249,7 @@ fn step_call(
     place: Place,
     sign: Sign,
 ) -> Result<Option<ReadingState>, NoMemory>
-    requires { 5 ≤ stage (as_state state) }
+    requires { 6 ≤ stage (as_state state) }
     ensures { Moves result (machine.step (as_state state) place sign) }
 {
     match state {
@@ -234,11 +260,11 @@ fn step_call(
             Ok(at_close(ReadingState::CallComes { place, outer }, sign))
         }
         ReadingState::CallComes { place, outer } => Ok(call_comes(place, outer, sign)),
-        ReadingState::CallOpens { outer, statement } => {
-            Ok(at_open(ReadingState::CallCloses { outer, statement }, sign))
+        ReadingState::CallOpens { pending } => {
+            Ok(at_open(ReadingState::CallCloses { pending }, sign))
         }
-        ReadingState::CallCloses { outer, statement } => {
-            Ok(at_close(ReadingState::Finishing { outer, statement }, sign))
+        ReadingState::CallCloses { pending } => {
+            Ok(at_close(ReadingState::Finishing { pending }, sign))
         }
         other => step_edge(alloc, other, place, sign),
     }
@@ -248,10 +274,14 @@ fn step_call(
 #[tactic(auto, using(crate::proofs::Holding::holding))]
 fn call_comes(place: Place, outer: Stack, sign: Sign) -> Option<ReadingState>
     ensures { option_map as_state result
-        ≡ machine.at_function (machine.CallOpens (as_stack outer) (tree.Skip place tree.Done)) sign }
+        ≡ machine.at_function (machine.CallOpens
+        (machine.OfStatement (as_stack outer) (tree.Skip place tree.Done))) sign }
 {
-    let statement = Stmt::Skip { place };
-    at_function(ReadingState::CallOpens { outer, statement }, sign)
+    let pending = Pending::OfStatement {
+        outer,
+        statement: Stmt::Skip { place },
+    };
+    at_function(ReadingState::CallOpens { pending }, sign)
 }
 
 /// The step of a state in the parentheses of a function that is declared, or at the end of a file.
@@ -261,7 +291,7 @@ fn step_edge(
     place: Place,
     sign: Sign,
 ) -> Result<Option<ReadingState>, NoMemory>
-    requires { 6 ≤ stage (as_state state) }
+    requires { 7 ≤ stage (as_state state) }
     ensures { Moves result (machine.step (as_state state) place sign) }
 {
     match state {

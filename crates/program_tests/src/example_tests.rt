@@ -1,6 +1,6 @@
 //! The example files: what is written beside each is what its command writes.
 
-use crate::example_files::{FAMILIES, FILES, PROGRAMS, REFUSED_FAMILIES};
+use crate::example_files::{FAMILIES, FILES, PROGRAMS, REFUSED_FAMILIES, VARIANTS};
 use fam_outer::{CallNumbers, Entries, MemoryFiles, MemorySink, NoMemory, Text};
 use famlint_core::famlint;
 use std::alloc::Global;
@@ -48,6 +48,15 @@ fn programs_are_as_expected(rt: HostRuntime) -> Result<(), Fail> {
 #[test]
 fn families_are_as_expected(rt: HostRuntime) -> Result<(), Fail> {
     for (line, expected) in FAMILIES {
+        let text = written(rt.alloc(), line).map_err(|_| "memory")?;
+        assert_eq!(rt; text.as_slice(), expected.as_bytes(), "at {line}");
+    }
+    Ok(())
+}
+
+#[test]
+fn variants_are_as_expected(rt: HostRuntime) -> Result<(), Fail> {
+    for (line, expected) in VARIANTS {
         let text = written(rt.alloc(), line).map_err(|_| "memory")?;
         assert_eq!(rt; text.as_slice(), expected.as_bytes(), "at {line}");
     }

@@ -17,6 +17,8 @@ mod example_tests;
 #[cfg(test)]
 mod guide_tests;
 #[cfg(test)]
+mod local_tests;
+#[cfg(test)]
 mod plain_tests;
 #[cfg(test)]
 mod variant_tests;

@@ -235,16 +235,6 @@ fn keeps_limits(rt: HostRuntime) -> Result<(), Fail> {
     let blocks = repeated(alloc, "int main(void) {", "{", 64, "")?;
     let more_blocks = repeated(alloc, "int main(void) {", "{", 65, "")?;
     let cases = [
-        (
-            repeated(alloc, "int main(void) { }", " ", 1_048_557, "\n")?,
-            0,
-            "",
-        ),
-        (
-            repeated(alloc, "int main(void) { }", " ", 1_048_558, "\n")?,
-            4,
-            "file: F20 at 1:1\n",
-        ),
         (repeated(alloc, blocks.as_str(), "}", 64, "}\n")?, 0, ""),
         (
             repeated(alloc, more_blocks.as_str(), "}", 65, "}\n")?,
@@ -272,6 +262,20 @@ fn keeps_limits(rt: HostRuntime) -> Result<(), Fail> {
         let ran = ran_over(alloc, "plain f", &[("f", content.as_bytes())])?;
         assert_eq!(rt; ran.err.as_slice(), fault.as_bytes());
         assert_eq!(rt; ran.status, *status);
+    }
+    Ok(())
+}
+
+/// A file has at most a mebibyte.
+#[test]
+fn keeps_the_limit_of_bytes(rt: HostRuntime) -> Result<(), Fail> {
+    let alloc = rt.alloc();
+    let cases = [(1_048_557, 0, ""), (1_048_558, 4, "file: F20 at 1:1\n")];
+    for (spaces, status, fault) in cases {
+        let content = repeated(alloc, "int main(void) { }", " ", spaces, "\n")?;
+        let ran = ran_over(alloc, "plain f", &[("f", content.as_bytes())])?;
+        assert_eq!(rt; ran.err.as_slice(), fault.as_bytes());
+        assert_eq!(rt; ran.status, status);
     }
     Ok(())
 }

@@ -1,5 +1,5 @@
--- The names that stand as declared before `main` are the targets of the declarators that the grammar finds.
-use Rattle.std.proofs.Common.{◌≡◌, ℕ, Bool, true, false, not, ◌&&◌, ◌||◌, cond, List, [], ◌∷◌, ◌++◌, Option, None, refl, sym, ap, ◌∙◌, append_assoc, append-nil}
+-- The names that stand before `main`, where the conditions have truths, are the targets of the declarators whose guards hold.
+use Rattle.std.proofs.Common.{◌≡◌, ℕ, Bool, true, false, not, ◌&&◌, cond, List, [], ◌∷◌, ◌++◌, Option, None, refl, sym, ap, ◌∙◌, append_assoc}
 use Rattle.std.specs.Prelude.{ℤ}
 use Rattle.std.proofs.lemmas.List.{map-append}
 use Rattle.std.proofs.lemmas.List.Elements.{filter-append}
@@ -11,48 +11,16 @@ use Rattle.cpp_groups.specs.Kept.{truth, next_group, all_kept, sections_after}
 use Rattle.c_tree.specs.declared.lists.Declared.{Declared}
 use Rattle.c_tree.specs.declared.lists.Guard.{Guard}
 use Rattle.c_tree.specs.declared.tree.Op.TheVariants.{Sub}
-use Rattle.c_tree.specs.Tree.{Code}
 use Rattle.c_tree.specs.Project.{guard_holds, guards_hold}
 use Rattle.c_grammar.specs.declared.items.Item.{Item}
 use Rattle.c_grammar.specs.declared.items.Sign.{Sign}
 use Rattle.c_grammar.specs.declared.items.Sign.TheVariants as signs
-use Rattle.c_grammar.specs.Grammar.{at, Callable, of_input, of_function, Optional, absent, present, Typed, int, int32, signed, signed_int, int_signed, Qualifier, Qualified, unqualified, const_before, const_behind, Begins, only_type, then_type, enumeration, Declarator, bare, positive, negative, counted, Ending, variables_end, constants_end, enumeration_end, comma_end, Defines, defined, negative_defined, enclosed, negative_enclosed, with_true, with_false, declared, Part, Outer, Vars, Later, Declares, nothing, variables, prototype, void_prototype, definition, section, last_var, next_var, end_part, else_part, elif_part, Main, main, File, Forms, file, is_group}
-use Rattle.c_grammar.specs.Kept.{directive_of, kept_from, kept}
+use Rattle.c_grammar.specs.Grammar.{at, Callable, of_input, of_function, Optional, absent, present, Typed, int, int32, signed, signed_int, int_signed, Qualifier, Qualified, unqualified, const_before, const_behind, Begins, only_type, then_type, enumeration, Declarator, bare, positive, negative, counted, Ending, variables_end, constants_end, enumeration_end, comma_end, Defines, defined, negative_defined, enclosed, negative_enclosed, with_true, with_false, declared, Part, Outer, Vars, Later, Declares, nothing, variables, prototype, void_prototype, definition, section, last_var, next_var, end_part, else_part, elif_part, is_group}
+use Rattle.c_grammar.specs.Kept.{directive_of, kept_from}
+use Rattle.c_grammar.specs.Locals.{is_main, name_of, names_of}
 use Rattle.c_grammar.proofs.Guards.{seeks}
-use Rattle.family_names.specs.Names.{is_main, has_main, until_main, name_of, names_of, declared_by}
-use Rattle.c_parser.specs.Names as alone
 use Rattle.c_parser.specs.Names.{targets}
-use Rattle.reading_laws.specs.Declaring.{holding, DeclarationsAreOfTheGrammar, KeptDeclarationsHold}
-
--- ---- declared by words of both kinds of files
-
-main_same : (s : Sign) → alone.is_main s ≡ is_main s
-main_same signs.Main = refl
-main_same _ = refl
-
-name_same : (s : Sign) → alone.name_of s ≡ name_of s
-name_same (signs.Name n) = refl
-name_same _ = refl
-
-pub has_same : (xs : List Item) → alone.has_main xs ≡ has_main xs
-has_same [] = refl
-has_same (x ∷ xs) = ap (λ (b : Bool). b || alone.has_main xs) (main_same x.sign) ∙ ap (λ (b : Bool). is_main x.sign || b) (has_same xs)
-
-pub declared_same : (xs : List Item) → alone.declared_by xs ≡ declared_by xs
-declared_same [] = refl
-declared_same (x ∷ xs) =
-    ap (λ (b : Bool). cond b [] (alone.name_of x.sign ++ alone.declared_by xs)) (main_same x.sign)
-    ∙ (elim (is_main x.sign) as (λ b. cond b [] (alone.name_of x.sign ++ alone.declared_by xs) ≡ names_of (cond b [] (x ∷ until_main xs))) [
-      | true ↦ refl
-      | false ↦ ap (λ (ns : List ℕ). ns ++ alone.declared_by xs) (name_same x.sign) ∙ ap (λ (ns : List ℕ). name_of x.sign ++ ns) (declared_same xs)
-    ])
-
--- what a law of lower crates says of the words of plain files
-abbrev pub DeclaredAlone : Type 0
-DeclaredAlone = (items : List Item) (f : File) → Forms items f → alone.declared_by items ≡ targets f.declared
-
-pub declarations_are_of_the_grammar : DeclaredAlone → DeclarationsAreOfTheGrammar
-declarations_are_of_the_grammar law items f h = sym (declared_same items) ∙ law items f h
+use Rattle.reading_laws.specs.Declaring.{holding}
 
 -- ---- items that name nothing and are no directive
 
@@ -60,7 +28,7 @@ abbrev pub IsSilent : List Item → Type 0
 IsSilent [] = Unit {0}
 IsSilent (x ∷ xs) = (is_group x.sign ≡ false) × (directive_of x.sign ≡ None) × (name_of x.sign ≡ []) × (is_main x.sign ≡ false) × IsSilent xs
 
-silent_first : (t : List Bool) (secs : List Section) (x : Item) (w : List Item) → directive_of x.sign ≡ None → name_of x.sign ≡ [] → names_of (kept_from t secs (x ∷ w)) ≡ names_of (kept_from t secs w)
+pub silent_first : (t : List Bool) (secs : List Section) (x : Item) (w : List Item) → directive_of x.sign ≡ None → name_of x.sign ≡ [] → names_of (kept_from t secs (x ∷ w)) ≡ names_of (kept_from t secs w)
 silent_first t secs x w d n =
     ap (λ (o : Option GroupDirective). names_of (cond (not (is_group x.sign) && all_kept secs) (x ∷ kept_from t (sections_after t secs o) w) (kept_from t (sections_after t secs o) w))) d
     ∙ (elim (not (is_group x.sign) && all_kept secs) as (λ b. names_of (cond b (x ∷ kept_from t secs w) (kept_from t secs w)) ≡ names_of (kept_from t secs w)) [
@@ -83,7 +51,7 @@ pub silent_both : (us vs : List Item) → IsSilent us → IsSilent vs → IsSile
 silent_both [] vs h k = k
 silent_both (x ∷ us) vs h k = (h.0, h.1, h.2, h.3, silent_both us vs h.4 k)
 
-qualified_silent : {us : List Item} {kind : Qualifier} → Qualified kind us → IsSilent us
+pub qualified_silent : {us : List Item} {kind : Qualifier} → Qualified kind us → IsSilent us
 qualified_silent (unqualified y) = typed_silent y
 qualified_silent (const_before p y) = (refl, refl, refl, refl, typed_silent y)
 qualified_silent (const_behind p {us} y) = silent_both us (at p signs.Const ∷ []) (typed_silent y) (refl, refl, refl, refl, tt)
@@ -148,7 +116,7 @@ in_false t gs n sec secs h = holds_then t gs (record { number = n; positive = fa
 
 -- ---- declarators
 
-held_both : (t : List Bool) (ds es : List Declared) → targets (holding t (ds ++ es)) ≡ targets (holding t ds) ++ targets (holding t es)
+pub held_both : (t : List Bool) (ds es : List Declared) → targets (holding t (ds ++ es)) ≡ targets (holding t ds) ++ targets (holding t es)
 held_both t ds es =
     ap targets (filter-append (λ (d : Declared). guards_hold t d.guards) ds es) ∙ map-append (λ (d : Declared). d.target) (holding t ds) (holding t es)
 
@@ -156,7 +124,7 @@ held_first : (t : List Bool) (x : ℕ) (n : ℤ) (gs : List Guard) (ds : List De
 held_first t x n gs ds true e = ap (λ (b : Bool). targets (cond b (declared x n gs ∷ holding t ds) (holding t ds))) (sym e)
 held_first t x n gs ds false e = ap (λ (b : Bool). targets (cond b (declared x n gs ∷ holding t ds) (holding t ds))) (sym e)
 
-name_first : (t : List Bool) (secs : List Section) (p : Place) (x : ℕ) (w : List Item) → names_of (kept_from t secs (at p (signs.Name x) ∷ w)) ≡ cond (all_kept secs) (x ∷ []) [] ++ names_of (kept_from t secs w)
+pub name_first : (t : List Bool) (secs : List Section) (p : Place) (x : ℕ) (w : List Item) → names_of (kept_from t secs (at p (signs.Name x) ∷ w)) ≡ cond (all_kept secs) (x ∷ []) [] ++ names_of (kept_from t secs w)
 name_first t secs p x w = elim (all_kept secs) as (λ b. names_of (cond b (at p (signs.Name x) ∷ kept_from t secs w) (kept_from t secs w)) ≡ cond b (x ∷ []) [] ++ names_of (kept_from t secs w)) [ true ↦ refl | false ↦ refl ]
 
 declarator_first : {us : List Item} {x : ℕ} {n : ℤ} {kind : Qualifier} (t : List Bool) (secs : List Section) (w : List Item) → Declarator kind us x n → names_of (kept_from t secs (us ++ w)) ≡ cond (all_kept secs) (x ∷ []) [] ++ names_of (kept_from t secs w)
@@ -263,60 +231,3 @@ holds t (elif_part p n gs {us} {vs} {cs} {ds} a b) = λ sec secs h w.
     ∙ holds t a (inner ∷ secs) (in_true t gs n sec secs h) (vs ++ w)
     ∙ ap (λ (ns : List ℕ). targets (holding t cs) ++ ns) (holds t b inner secs (in_false t gs n sec secs h) w)
     ∙ both_held t cs ds (names_of (kept_from t secs w))
-
--- ---- up to `main`
-
-silent_until : (us w : List Item) → IsSilent us → until_main (us ++ w) ≡ us ++ until_main w
-silent_until [] w h = refl
-silent_until (x ∷ us) w h = ap (λ (b : Bool). cond b [] (x ∷ until_main (us ++ w))) h.3 ∙ ap (λ (y : List Item). x ∷ y) (silent_until us w h.4)
-
-declarator_until : {us : List Item} {x : ℕ} {n : ℤ} {kind : Qualifier} (w : List Item) → Declarator kind us x n → until_main (us ++ w) ≡ us ++ until_main w
-declarator_until w (bare p x) = refl
-declarator_until w (positive p q r x n) = refl
-declarator_until w (negative p q r s x n) = refl
-declarator_until w (counted p x last lt) = refl
-
-definition_until : {us : List Item} {x : ℕ} {n : ℤ} (w : List Item) → Defines us x n → until_main (us ++ w) ≡ us ++ until_main w
-definition_until w (defined p q r x n) = refl
-definition_until w (negative_defined p q r s x n) = refl
-definition_until w (enclosed p q r s t x n) = refl
-definition_until w (negative_enclosed p q r s t u x n) = refl
-
-until_both : (us vs w : List Item) → until_main (us ++ (vs ++ w)) ≡ us ++ until_main (vs ++ w) → until_main (vs ++ w) ≡ vs ++ until_main w → until_main ((us ++ vs) ++ w) ≡ (us ++ vs) ++ until_main w
-until_both us vs w h k = ap until_main (append_assoc us vs w) ∙ h ∙ ap (λ (y : List Item). us ++ y) k ∙ sym (append_assoc us vs (until_main w))
-
-pub no_main : {part : Part} {us : List Item} {ds : List Declared} → Declares part us ds → (w : List Item) → until_main (us ++ w) ≡ us ++ until_main w
-no_main (nothing gs) w = refl
-no_main (variables gs {us} {vs} {ws} o v d) w = until_both us (vs ++ ws) w (silent_until us ((vs ++ ws) ++ w) (static_silent o)) (until_both vs ws w (no_main v (ws ++ w)) (no_main d w))
-no_main (prototype q r s t gs {f} {us} {vs} {ws} o c v d) w =
-    let tail : List Item = at s signs.Close ∷ at t signs.Semicolon ∷ ws in
-    until_both us (at q f ∷ at r signs.Open ∷ (vs ++ tail)) w (silent_until us (at q f ∷ at r signs.Open ∷ ((vs ++ tail) ++ w)) (extern_silent o))
-    (silent_until (at q f ∷ at r signs.Open ∷ []) ((vs ++ tail) ++ w) (callable_silent q r c)
-    ∙ ap (λ (y : List Item). at q f ∷ at r signs.Open ∷ y) (until_both vs tail w (silent_until vs (tail ++ w) (void_silent v))
-    (ap (λ (y : List Item). at s signs.Close ∷ at t signs.Semicolon ∷ y) (no_main d w))))
-no_main (void_prototype p q r s t k gs {us} {vs} {ws} o v d) w =
-    let tail : List Item = at s signs.Close ∷ at t signs.Semicolon ∷ ws in
-    let front : List Item = at p signs.Void ∷ at q (signs.Function k) ∷ at r signs.Open ∷ [] in
-    until_both us (at p signs.Void ∷ at q (signs.Function k) ∷ at r signs.Open ∷ (vs ++ tail)) w (silent_until us (at p signs.Void ∷ at q (signs.Function k) ∷ at r signs.Open ∷ ((vs ++ tail) ++ w)) (outer_silent o))
-    (ap (λ (y : List Item). front ++ y) (until_both vs tail w (silent_until vs (tail ++ w) (void_silent v))
-    (ap (λ (y : List Item). at s signs.Close ∷ at t signs.Semicolon ∷ y) (no_main d w))))
-no_main (definition gs {us} {ws} o d) w = until_both us ws w (definition_until (ws ++ w) o) (no_main d w)
-no_main (section p n gs {us} {vs} {ws} a b d) w =
-    ap (λ (y : List Item). at p (signs.GroupIf n) ∷ y) (until_both us (vs ++ ws) w (no_main a ((vs ++ ws) ++ w)) (until_both vs ws w (no_main b (ws ++ w)) (no_main d w)))
-no_main (last_var gs {us} {vs} d o) w = until_both us vs w (declarator_until (vs ++ w) d) (silent_until vs w (ending_silent o))
-no_main (next_var p gs {us} {vs} d v) w =
-    until_both us (at p signs.Comma ∷ vs) w (declarator_until (at p signs.Comma ∷ (vs ++ w)) d) (ap (λ (y : List Item). at p signs.Comma ∷ y) (no_main v w))
-no_main (end_part p gs) w = refl
-no_main (else_part p q gs {us} d) w = ap (λ (y : List Item). at p signs.GroupElse ∷ y) (until_both us (at q signs.GroupEnd ∷ []) w (no_main d (at q signs.GroupEnd ∷ w)) refl)
-no_main (elif_part p n gs {us} {vs} a b) w = ap (λ (y : List Item). at p (signs.GroupElif n) ∷ y) (until_both us vs w (no_main a (vs ++ w)) (no_main b w))
-
--- the words of its type stand before it
-in_type : {us : List Item} {c : Code} {p : Place} (t : List Bool) → Main us c p → names_of (kept t (until_main us)) ≡ []
-in_type t (main q r s z u {ts} {us} {vs} y o b) =
-    let rest : List Item = at q signs.Main ∷ at r signs.Open ∷ (us ++ at s signs.Close ∷ at z signs.LeftBrace ∷ vs) in
-    ap (λ (w : List Item). names_of (kept t w)) (silent_until ts rest (typed_silent y)) ∙ silent t [] ts [] (typed_silent y)
-
-pub kept_declarations_hold : KeptDeclarationsHold
-kept_declarations_hold t _ _ (file {us} {vs} {ds} {c} {p} d m) =
-    ap (λ (w : List Item). names_of (kept t w)) (no_main d vs) ∙ holds t d [] refl (until_main vs)
-    ∙ ap (λ (ns : List ℕ). targets (holding t ds) ++ ns) (in_type t m) ∙ append-nil (targets (holding t ds))

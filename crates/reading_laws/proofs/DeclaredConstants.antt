@@ -1,6 +1,7 @@
--- The names that stand in declarations with `const` or `enum`, or behind `#define`, are the targets of the constants that the grammar finds.
-use Rattle.std.proofs.Common.{◌≡◌, ℕ, Bool, true, false, not, ◌||◌, cond, List, [], ◌∷◌, ◌++◌, refl, sym, ap, ◌∙◌, append_assoc, append-nil}
-use Rattle.std.specs.Prelude.{ℤ, if◌then◌else◌}
+-- The names that stand before `main` in declarations with `const` or `enum`, or behind `#define`, are the targets of the constants that the
+-- grammar finds there.
+use Rattle.std.proofs.Common.{◌≡◌, ℕ, Bool, true, false, ◌||◌, cond, List, [], ◌∷◌, ◌++◌, refl, sym, ap, ◌∙◌, append_assoc}
+use Rattle.std.specs.Prelude.{ℤ}
 use Rattle.fam_outer.specs.declared.faults.Place.{Place}
 use Rattle.cpp_groups.specs.declared.section.Section.{Section}
 use Rattle.cpp_groups.specs.declared.section.Section.TheVariants.{Seeking}
@@ -8,25 +9,27 @@ use Rattle.cpp_groups.specs.Kept.{truth, next_group, all_kept}
 use Rattle.c_tree.specs.declared.lists.Declared.{Declared}
 use Rattle.c_tree.specs.declared.lists.Guard.{Guard}
 use Rattle.c_tree.specs.declared.tree.Op.TheVariants.{Sub}
-use Rattle.c_tree.specs.Tree.{Code}
 use Rattle.c_tree.specs.Project.{guards_hold}
 use Rattle.c_grammar.specs.declared.constants.NameKind.{NameKind}
 use Rattle.c_grammar.specs.declared.constants.NameKind.TheVariants as kinds
 use Rattle.c_grammar.specs.declared.items.Item.{Item}
 use Rattle.c_grammar.specs.declared.items.Sign.{Sign}
 use Rattle.c_grammar.specs.declared.items.Sign.TheVariants as signs
-use Rattle.c_grammar.specs.Constants.{is_name, is_constant, kind_behind, constants_from}
-use Rattle.c_grammar.specs.Grammar.{at, Callable, of_input, of_function, Optional, absent, present, Typed, int, int32, signed, signed_int, int_signed, Qualifier, Unqualified, Constant, Counted, Qualified, unqualified, const_before, const_behind, Begins, only_type, then_type, enumeration, Declarator, bare, positive, negative, counted, Ending, variables_end, constants_end, enumeration_end, comma_end, Defines, defined, negative_defined, enclosed, negative_enclosed, Part, Outer, Vars, Later, Declares, nothing, variables, prototype, void_prototype, definition, section, last_var, next_var, end_part, else_part, elif_part, Main, main, file}
-use Rattle.c_grammar.specs.Kept.{kept_from, kept}
+use Rattle.c_grammar.specs.Constants.{constants_from}
+use Rattle.c_grammar.specs.Grammar.{at, Callable, of_input, of_function, Optional, absent, present, Typed, int, int32, signed, signed_int, int_signed, Qualifier, Unqualified, Constant, Counted, Qualified, unqualified, const_before, const_behind, Begins, only_type, then_type, enumeration, Declarator, bare, positive, negative, counted, Ending, variables_end, constants_end, enumeration_end, comma_end, Defines, defined, negative_defined, enclosed, negative_enclosed, Part, Outer, Vars, Later, Declares, nothing, variables, prototype, void_prototype, definition, section, last_var, next_var, end_part, else_part, elif_part}
+use Rattle.c_grammar.specs.Kept.{kept_from}
 use Rattle.c_grammar.proofs.Guards.{seeks}
-use Rattle.family_names.specs.Names.{is_main, until_main, names_of}
-use Rattle.family_names.proofs.Holding.{left_out, kept_in}
+use Rattle.c_grammar.specs.Locals.{is_main, is_declaring, declarations_from, names_of}
+use Rattle.c_grammar.specs.LocalsOf.{of_kind}
+use Rattle.family_names.proofs.Holding.{kept_in}
 use Rattle.c_parser.specs.Names.{targets}
-use Rattle.reading_laws.specs.Declaring.{holding, of_kind, constants_in, KeptConstantsHold}
-use Rattle.reading_laws.proofs.Declared.{IsSilent, silent, silent_both, typed_silent, static_silent, extern_silent, outer_silent, callable_silent, void_silent, in_true, in_false, else_matches, both_held, definition_first, one_held, holds, no_main}
+use Rattle.family_names.specs.AroundMain.{has_main}
+use Rattle.c_parser.proofs.LocalDeclarations.{names_before, definition_names}
+use Rattle.reading_laws.specs.Declaring.{holding, constants_in}
+use Rattle.reading_laws.proofs.Declared.{IsSilent, silent, silent_both, static_silent, extern_silent, outer_silent, callable_silent, void_silent, in_true, in_false, else_matches, both_held, definition_first, one_held, holds}
 
 -- what the names of declarators are
-abbrev kind_of : Qualifier → NameKind
+abbrev pub kind_of : Qualifier → NameKind
 kind_of Unqualified = kinds.Variable
 kind_of Constant = kinds.Constant
 kind_of (Counted last) = kinds.Constant
@@ -40,7 +43,7 @@ type_all kind w (signed p) = kept_in kind (at p signs.Signed) w refl
 type_all kind w (signed_int p q) = kept_in kind (at p signs.Signed) (at q signs.Int ∷ w) refl ∙ ap (λ (y : List Item). at p signs.Signed ∷ y) (kept_in kind (at q signs.Int) w refl)
 type_all kind w (int_signed p q) = kept_in kind (at p signs.Int) (at q signs.Signed ∷ w) refl ∙ ap (λ (y : List Item). at p signs.Int ∷ y) (kept_in kind (at q signs.Signed) w refl)
 
-qualified_all : {us : List Item} {kind : Qualifier} (w : List Item) → Qualified kind us → constants_from kinds.Variable (us ++ w) ≡ us ++ constants_from (kind_of kind) w
+pub qualified_all : {us : List Item} {kind : Qualifier} (w : List Item) → Qualified kind us → constants_from kinds.Variable (us ++ w) ≡ us ++ constants_from (kind_of kind) w
 qualified_all w (unqualified y) = type_all kinds.Variable w y
 qualified_all w (const_before p y) = ap (λ (y : List Item). at p signs.Const ∷ y) (type_all kinds.Constant w y)
 qualified_all w (const_behind p {us} y) =
@@ -122,59 +125,92 @@ variables_left (next_var p gs {us} {vs} d v) = let l = variable_left d in let m 
       ∙ ap (λ (y : List Item). l.rest ++ at p signs.Comma ∷ y) (m.are w) ∙ sym (append_assoc l.rest (at p signs.Comma ∷ m.rest) (constants_from kinds.Variable w));
 }
 
+-- ---- before `main` no item is left out that declares nothing
+
+-- the names that are declared from here on before `main`
+abbrev pub before_here : List Bool → List Section → List Item → List ℕ
+before_here t secs w = names_of (kept_from t secs (declarations_from false false w))
+
+any_declaring : (a b : Bool) (w : List Item) → declarations_from false a w ≡ declarations_from false b w
+any_declaring a b [] = refl
+any_declaring a b (x ∷ xs) = refl
+
+all_stay : (us w : List Item) → has_main us ≡ false → declarations_from false false (us ++ w) ≡ us ++ declarations_from false false w
+all_stay [] w h = refl
+all_stay (x ∷ xs) w h =
+    ap (λ (ys : List Item). x ∷ ys)
+    (elim (is_main x.sign) as (λ b. (b || has_main xs) ≡ false → declarations_from b (is_declaring x.sign) (xs ++ w) ≡ xs ++ declarations_from false false w) [
+      | true ↦ λ g. absurd cc
+      | false ↦ λ g. any_declaring (is_declaring x.sign) false (xs ++ w) ∙ all_stay xs w g
+    ] h)
+
+silent_main : (us : List Item) → IsSilent us → has_main us ≡ false
+silent_main [] h = refl
+silent_main (x ∷ xs) h = ap (λ (b : Bool). b || has_main xs) h.3 ∙ silent_main xs h.4
+
+silent_before : (t : List Bool) (secs : List Section) (us w : List Item) → IsSilent us → before_here t secs (us ++ w) ≡ before_here t secs w
+silent_before t secs us w h = ap (λ (y : List Item). names_of (kept_from t secs y)) (all_stay us w (silent_main us h)) ∙ silent t secs us (declarations_from false false w) h
+
+holds_before : {gs : List Guard} {us : List Item} {ds : List Declared} {kind : Qualifier} (t : List Bool) → Declares (Vars kind gs) us ds → (secs : List Section) → guards_hold t gs ≡ all_kept secs → (w : List Item)
+    → before_here t secs (us ++ w) ≡ targets (holding t ds) ++ before_here t secs w
+holds_before {us = us} t v secs h w = ap (λ (y : List Item). names_of (kept_from t secs y)) (all_stay us w (names_before v).no_main) ∙ holds t v secs h (declarations_from false false w)
+
+definition_before : {us : List Item} {x : ℕ} {n : ℤ} (t : List Bool) (secs : List Section) (w : List Item) → Defines us x n → before_here t secs (us ++ w) ≡ cond (all_kept secs) (x ∷ []) [] ++ before_here t secs w
+definition_before {us} t secs w o = ap (λ (y : List Item). names_of (kept_from t secs y)) (all_stay us w (definition_names [] o).no_main) ∙ definition_first t secs (declarations_from false false w) o
+
 -- ---- declarations
 
-abbrev KeptAfter : List Bool → List Section → List Item → List ℕ
-KeptAfter t secs w = names_of (kept_from t secs (constants_from kinds.Variable w))
+abbrev pub KeptAfter : List Bool → List Section → List Item → List ℕ
+KeptAfter t secs w = before_here t secs (constants_from kinds.Variable w)
 
 vars_hold : {gs : List Guard} {us : List Item} {ds : List Declared} (t : List Bool) (kind : Qualifier) (secs : List Section) → guards_hold t gs ≡ all_kept secs → (w : List Item) → Declares (Vars kind gs) us ds
-    → names_of (kept_from t secs (constants_from (kind_of kind) (us ++ w))) ≡ targets (holding t (of_kind kind ds)) ++ KeptAfter t secs w
-vars_hold {us = us} t Unqualified secs h w v = let l = variables_left v in ap (λ (y : List Item). names_of (kept_from t secs y)) (l.are w) ∙ silent t secs l.rest (constants_from kinds.Variable w) l.is_silent
-vars_hold {us = us} t Constant secs h w v = ap (λ (y : List Item). names_of (kept_from t secs y)) (constants_all w v) ∙ holds t v secs h (constants_from kinds.Variable w)
-vars_hold {us = us} t (Counted last) secs h w v = ap (λ (y : List Item). names_of (kept_from t secs y)) (constants_all w v) ∙ holds t v secs h (constants_from kinds.Variable w)
+    → before_here t secs (constants_from (kind_of kind) (us ++ w)) ≡ targets (holding t (of_kind kind ds)) ++ KeptAfter t secs w
+vars_hold {us = us} t Unqualified secs h w v = let l = variables_left v in ap (before_here t secs) (l.are w) ∙ silent_before t secs l.rest (constants_from kinds.Variable w) l.is_silent
+vars_hold {us = us} t Constant secs h w v = ap (before_here t secs) (constants_all w v) ∙ holds_before t v secs h (constants_from kinds.Variable w)
+vars_hold {us = us} t (Counted last) secs h w v = ap (before_here t secs) (constants_all w v) ∙ holds_before t v secs h (constants_from kinds.Variable w)
 
 abbrev ConstantsHold : List Bool → Part → List Item → List Declared → Type 0
 ConstantsHold t (Outer gs) us cs = (secs : List Section) → guards_hold t gs ≡ all_kept secs → (w : List Item) → KeptAfter t secs (us ++ w) ≡ targets (holding t cs) ++ KeptAfter t secs w
 ConstantsHold t (Vars kind gs) us cs = Unit {0}
 ConstantsHold t (Later gs) us cs = (sec : Section) (secs : List Section) → guards_hold t gs ≡ seeks sec secs → (w : List Item) → KeptAfter t (sec ∷ secs) (us ++ w) ≡ targets (holding t cs) ++ KeptAfter t secs w
 
-constants_hold : {part : Part} {us : List Item} {ds : List Declared} (t : List Bool) → (d : Declares part us ds) → ConstantsHold t part us (constants_in d)
+pub constants_hold : {part : Part} {us : List Item} {ds : List Declared} (t : List Bool) → (d : Declares part us ds) → ConstantsHold t part us (constants_in d)
 constants_hold t (nothing gs) = λ secs h w. refl
 constants_hold t (variables gs {us} {vs} {ws} {ds} {es} {kind} o v d) = λ secs h w.
     ap (KeptAfter t secs) (append_assoc us (vs ++ ws) w)
-    ∙ ap (λ (y : List Item). names_of (kept_from t secs y)) (static_all ((vs ++ ws) ++ w) o)
-    ∙ silent t secs us (constants_from (kind_of kind) ((vs ++ ws) ++ w)) (static_silent o)
-    ∙ ap (λ (y : List Item). names_of (kept_from t secs (constants_from (kind_of kind) y))) (append_assoc vs ws w)
+    ∙ ap (before_here t secs) (static_all ((vs ++ ws) ++ w) o)
+    ∙ silent_before t secs us (constants_from (kind_of kind) ((vs ++ ws) ++ w)) (static_silent o)
+    ∙ ap (λ (y : List Item). before_here t secs (constants_from (kind_of kind) y)) (append_assoc vs ws w)
     ∙ vars_hold t kind secs h (ws ++ w) v
     ∙ ap (λ (ns : List ℕ). targets (holding t (of_kind kind ds)) ++ ns) (constants_hold t d secs h w)
     ∙ both_held t (of_kind kind ds) (constants_in d) (KeptAfter t secs w)
 constants_hold t (prototype q r s z gs {f} {us} {vs} {ws} {es} o c v d) = λ secs h w.
     let tail : List Item = at s signs.Close ∷ at z signs.Semicolon ∷ ws in
     ap (KeptAfter t secs) (append_assoc us (at q f ∷ at r signs.Open ∷ (vs ++ tail)) w)
-    ∙ ap (λ (y : List Item). names_of (kept_from t secs y)) (extern_all (at q f ∷ at r signs.Open ∷ ((vs ++ tail) ++ w)) o)
-    ∙ silent t secs us (constants_from kinds.Variable (at q f ∷ at r signs.Open ∷ ((vs ++ tail) ++ w))) (extern_silent o)
-    ∙ ap (λ (y : List Item). names_of (kept_from t secs y)) (callable_all q r ((vs ++ tail) ++ w) c)
-    ∙ silent t secs (at q f ∷ at r signs.Open ∷ []) (constants_from kinds.Variable ((vs ++ tail) ++ w)) (callable_silent q r c)
+    ∙ ap (before_here t secs) (extern_all (at q f ∷ at r signs.Open ∷ ((vs ++ tail) ++ w)) o)
+    ∙ silent_before t secs us (constants_from kinds.Variable (at q f ∷ at r signs.Open ∷ ((vs ++ tail) ++ w))) (extern_silent o)
+    ∙ ap (before_here t secs) (callable_all q r ((vs ++ tail) ++ w) c)
+    ∙ silent_before t secs (at q f ∷ at r signs.Open ∷ []) (constants_from kinds.Variable ((vs ++ tail) ++ w)) (callable_silent q r c)
     ∙ ap (KeptAfter t secs) (append_assoc vs tail w)
-    ∙ ap (λ (y : List Item). names_of (kept_from t secs y)) (void_all (tail ++ w) v)
-    ∙ silent t secs vs (constants_from kinds.Variable (tail ++ w)) (void_silent v)
-    ∙ silent t secs (at s signs.Close ∷ at z signs.Semicolon ∷ []) (constants_from kinds.Variable (ws ++ w)) (refl, refl, refl, refl, (refl, refl, refl, refl, tt))
+    ∙ ap (before_here t secs) (void_all (tail ++ w) v)
+    ∙ silent_before t secs vs (constants_from kinds.Variable (tail ++ w)) (void_silent v)
+    ∙ silent_before t secs (at s signs.Close ∷ at z signs.Semicolon ∷ []) (constants_from kinds.Variable (ws ++ w)) (refl, refl, refl, refl, (refl, refl, refl, refl, tt))
     ∙ constants_hold t d secs h w
 constants_hold t (void_prototype p q r s z k gs {us} {vs} {ws} {es} o v d) = λ secs h w.
     let tail : List Item = at s signs.Close ∷ at z signs.Semicolon ∷ ws in
     ap (KeptAfter t secs) (append_assoc us (at p signs.Void ∷ at q (signs.Function k) ∷ at r signs.Open ∷ (vs ++ tail)) w)
-    ∙ ap (λ (y : List Item). names_of (kept_from t secs y)) (outer_all (at p signs.Void ∷ at q (signs.Function k) ∷ at r signs.Open ∷ ((vs ++ tail) ++ w)) o)
-    ∙ silent t secs us (at p signs.Void ∷ at q (signs.Function k) ∷ at r signs.Open ∷ constants_from kinds.Variable ((vs ++ tail) ++ w)) (outer_silent o)
-    ∙ silent t secs (at p signs.Void ∷ at q (signs.Function k) ∷ at r signs.Open ∷ []) (constants_from kinds.Variable ((vs ++ tail) ++ w)) (refl, refl, refl, refl, (refl, refl, refl, refl, (refl, refl, refl, refl, tt)))
+    ∙ ap (before_here t secs) (outer_all (at p signs.Void ∷ at q (signs.Function k) ∷ at r signs.Open ∷ ((vs ++ tail) ++ w)) o)
+    ∙ silent_before t secs us (at p signs.Void ∷ at q (signs.Function k) ∷ at r signs.Open ∷ constants_from kinds.Variable ((vs ++ tail) ++ w)) (outer_silent o)
+    ∙ silent_before t secs (at p signs.Void ∷ at q (signs.Function k) ∷ at r signs.Open ∷ []) (constants_from kinds.Variable ((vs ++ tail) ++ w)) (refl, refl, refl, refl, (refl, refl, refl, refl, (refl, refl, refl, refl, tt)))
     ∙ ap (KeptAfter t secs) (append_assoc vs tail w)
-    ∙ ap (λ (y : List Item). names_of (kept_from t secs y)) (void_all (tail ++ w) v)
-    ∙ silent t secs vs (constants_from kinds.Variable (tail ++ w)) (void_silent v)
-    ∙ silent t secs (at s signs.Close ∷ at z signs.Semicolon ∷ []) (constants_from kinds.Variable (ws ++ w)) (refl, refl, refl, refl, (refl, refl, refl, refl, tt))
+    ∙ ap (before_here t secs) (void_all (tail ++ w) v)
+    ∙ silent_before t secs vs (constants_from kinds.Variable (tail ++ w)) (void_silent v)
+    ∙ silent_before t secs (at s signs.Close ∷ at z signs.Semicolon ∷ []) (constants_from kinds.Variable (ws ++ w)) (refl, refl, refl, refl, (refl, refl, refl, refl, tt))
     ∙ constants_hold t d secs h w
 constants_hold t (definition gs {us} {ws} {es} {x} {n} o d) = λ secs h w.
     ap (KeptAfter t secs) (append_assoc us ws w)
-    ∙ ap (λ (y : List Item). names_of (kept_from t secs y)) (definition_all (ws ++ w) o)
-    ∙ definition_first t secs (constants_from kinds.Variable (ws ++ w)) o
+    ∙ ap (before_here t secs) (definition_all (ws ++ w) o)
+    ∙ definition_before t secs (constants_from kinds.Variable (ws ++ w)) o
     ∙ ap (λ (ns : List ℕ). cond (all_kept secs) (x ∷ []) [] ++ ns) (constants_hold t d secs h w)
     ∙ one_held t x n gs (constants_in d) secs (KeptAfter t secs w) h
 constants_hold t (section p n gs {us} {vs} {ws} a b d) = λ secs h w.
@@ -197,39 +233,3 @@ constants_hold t (elif_part p n gs {us} {vs} a b) = λ sec secs h w.
     ∙ constants_hold t a (inner ∷ secs) (in_true t gs n sec secs h) (vs ++ w)
     ∙ ap (λ (ns : List ℕ). targets (holding t (constants_in a)) ++ ns) (constants_hold t b inner secs (in_false t gs n sec secs h) w)
     ∙ both_held t (constants_in a) (constants_in b) (KeptAfter t secs w)
-
--- ---- up to `main`
-
-until_constants : (kind : NameKind) (xs : List Item) → until_main (constants_from kind xs) ≡ constants_from kind (until_main xs)
-until_constants kind [] = refl
-until_constants kind (x ∷ xs) =
-    elim (is_constant kind || not (is_name x.sign)) as (λ t. (is_constant kind || not (is_name x.sign)) ≡ t → until_main (if t then x ∷ constants_from (kind_behind kind x.sign) xs else constants_from (kind_behind kind x.sign) xs) ≡ constants_from kind (if is_main x.sign then [] else x ∷ until_main xs)) [
-      | true ↦ λ e. (elim (is_main x.sign) as (λ m. (if m then [] else x ∷ until_main (constants_from (kind_behind kind x.sign) xs)) ≡ constants_from kind (if m then [] else x ∷ until_main xs)) [
-        | true ↦ refl
-        | false ↦ ap (λ (ys : List Item). x ∷ ys) (until_constants (kind_behind kind x.sign) xs)
-            ∙ ap (λ (t : Bool). if t then x ∷ constants_from (kind_behind kind x.sign) (until_main xs) else constants_from (kind_behind kind x.sign) (until_main xs)) (sym e)
-      ])
-      | false ↦ λ e. until_constants (kind_behind kind x.sign) xs
-          ∙ ap (λ (t : Bool). if t then x ∷ constants_from (kind_behind kind x.sign) (until_main xs) else constants_from (kind_behind kind x.sign) (until_main xs)) (sym e)
-          ∙ ap (λ (m : Bool). constants_from kind (if m then [] else x ∷ until_main xs)) (sym (ap is_main (left_out (is_constant kind) x.sign e).1))
-    ] refl
-
-type_until : {us : List Item} (w : List Item) → Typed us → until_main (us ++ w) ≡ us ++ until_main w
-type_until w (int p) = refl
-type_until w (int32 p) = refl
-type_until w (signed p) = refl
-type_until w (signed_int p q) = refl
-type_until w (int_signed p q) = refl
-
-in_type : {us : List Item} {c : Code} {p : Place} (t : List Bool) → Main us c p → KeptAfter t [] (until_main us) ≡ []
-in_type t (main q r s u z {ts} {us} {vs} y o b) =
-    ap (KeptAfter t []) (type_until (at q signs.Main ∷ at r signs.Open ∷ (us ++ at s signs.Close ∷ at u signs.LeftBrace ∷ vs)) y)
-    ∙ ap (λ (ys : List Item). names_of (kept t ys)) (type_all kinds.Variable [] y)
-    ∙ silent t [] ts [] (typed_silent y)
-
-pub kept_constants_hold : KeptConstantsHold
-kept_constants_hold t _ _ (file {us} {vs} {ds} {c} {p} d m) =
-    ap (λ (ys : List Item). names_of (kept t ys)) (until_constants kinds.Variable (us ++ vs))
-    ∙ ap (KeptAfter t []) (no_main d vs)
-    ∙ constants_hold t d [] refl (until_main vs)
-    ∙ ap (λ (ns : List ℕ). targets (holding t (constants_in d)) ++ ns) (in_type t m) ∙ append-nil (targets (holding t (constants_in d)))

@@ -1,5 +1,5 @@
 -- The item of a refusal of a name that has an example, and what the example says of it.
-use Rattle.std.proofs.Common.{◌≡◌, ℕ, Bool, true, false, not, ◌&&◌, List, [], ◌∷◌, ◌++◌, Option, Some, None, refl, sym, ap, subst, ◌∙◌, append_assoc, append-nil, inl, inr}
+use Rattle.std.proofs.Common.{◌≡◌, ℕ, Bool, true, false, not, ◌&&◌, ◌||◌, List, [], ◌∷◌, ◌++◌, Option, Some, None, refl, sym, ap, subst, ◌∙◌, append_assoc, append-nil, inl, inr}
 use Rattle.std.specs.Prelude.{ℤ, ◌⊎◌, length}
 use Rattle.fam_outer.specs.declared.faults.FileCode.{FileCode}
 use Rattle.fam_outer.specs.declared.faults.FileCode.TheVariants.{Undeclared, Twice, FeatureInCode, ChangedConstant}
@@ -8,15 +8,15 @@ use Rattle.linear_atoms.specs.declared.atoms.Config.{Config}
 use Rattle.atom_solver.specs.Solutions.{Finds}
 use Rattle.cpp_conditions.specs.declared.models.Model.{Model}
 use Rattle.cpp_conditions.specs.Validity.{plain, IsValid}
-use Rattle.cpp_lines.specs.Sections.{truths_at}
 use Rattle.c_grammar.specs.declared.items.Item.{Item}
 use Rattle.c_grammar.specs.declared.items.Sign.{Sign}
 use Rattle.c_grammar.specs.declared.items.Sign.TheVariants as signs
-use Rattle.c_grammar.specs.Constants.{changed_at}
+use Rattle.c_grammar.specs.Changes.{changed_at}
 use Rattle.c_grammar.specs.Functions.{is_void, is_equals, stands_behind}
+use Rattle.c_grammar.specs.Locals.{is_in_own}
 use Rattle.family_names.specs.Functions.{functions_at, callable_by, callable_at}
 use Rattle.family_names.specs.Names as family
-use Rattle.family_names.specs.Names.{NameContext, has_main, declared_by, declared_at, is_among, is_kept, is_missed, is_met_again, is_met_unlike, is_uncallable, is_feature, new_name_fault, function_fault, code_with, IsWithFirst, IsEither, IsNameFault, IsChangeOf, IsChangeFault, IsChangeOr, changed_place, IsFaultFrom, IsThisOr, IsUseFault, IsDeclarationFault, IsCallFault, IsPrototypeFault, IsFirstNameFault}
+use Rattle.family_names.specs.Names.{NameContext, has_main, declared_by, declared_at, is_among, is_kept, is_used_behind, is_missed, is_met_again, is_met_unlike, is_uncallable, is_feature, new_name_fault, function_fault, code_with, IsWithFirst, IsEither, IsNameFault, IsChangeOf, IsChangeFault, IsChangeOr, changed_place, IsFaultFrom, IsThisOr, IsUseFault, IsDeclarationFault, IsCallFault, IsPrototypeFault, IsFirstNameFault}
 use Rattle.c_parser.proofs.FewNames.{later_of}
 use Rattle.reading_laws.proofs.OtherFaults.{some_code, not_of_value, not_of_function, not_new}
 
@@ -96,11 +96,17 @@ find_first context before (x ∷ xs) code place other h f = elim h.0 as (λ o. I
 
 -- ---- what its example says
 
+-- a declaration stays, and where a use is asked, its scope has begun: the name stands not in its own declarator
+abbrev pub is_there : Bool → Bool → Bool → Bool
+is_there true own declared = not own && declared
+is_there false own declared = declared
+
 -- the item is a name, which is used without a declaration there, or declared again
 pub record IsNameMissed (context : NameContext) (front : List Item) (sign : Sign) (values : List ℤ) (missed : Bool) : Type 0 where
   pub name : ℕ
   pub sign_is : sign ≡ signs.Name name
-  pub declared : is_among name (declared_at (family.truths_at context values) front) ≡ not missed
+  pub use_is : is_used_behind front ≡ missed
+  pub declared : is_there missed (is_in_own front name) (is_among name (declared_at (family.truths_at context values) front)) ≡ not missed
   pub free : missed ≡ true → is_feature context name ≡ false
 
 -- the functions that may be called behind these items, or those that are declared otherwise than what comes next
@@ -112,11 +118,11 @@ functions_for false truths front = functions_at truths (not (stands_behind is_vo
 pub record IsFunctionMissed (context : NameContext) (front : List Item) (sign : Sign) (values : List ℤ) (missed : Bool) : Type 0 where
   pub function : ℕ
   pub sign_is : sign ≡ signs.Function function
+  pub main_is : has_main front ≡ missed
   pub declared : is_among function (functions_for missed (family.truths_at context values) front) ≡ not missed
 
 -- the example is a valid configuration at which the item stays, and is a name or a function of which that is so
 pub record IsExample (context : NameContext) (front : List Item) (sign : Sign) (values : List ℤ) (missed : Bool) : Type 0 where
-  pub main_is : has_main front ≡ missed
   pub valid : IsValid (plain context.model) values
   pub stays : is_kept (family.truths_at context values) front ≡ true
   pub is : IsNameMissed context front sign values missed ⊎ IsFunctionMissed context front sign values missed
@@ -150,6 +156,12 @@ not_missing code values never (Some config) e = never (Some config.values) e
 not_again : (code : FileCode) (other : Option FileCode) → ((example : Option (List ℤ)) → some_code code ≡ some_code (Twice example) → ⊥) → (some_code code ≡ other → ⊥) → (found : Option Config) → some_code code ≡ code_with Twice other found → ⊥
 not_again code other never none None e = none e
 not_again code other never none (Some config) e = never (Some config.values) e
+
+-- the scope of the name has not begun, or no declaration of it stays
+out_of_scope : (own declared : Bool) → (own || not declared) ≡ true → (not own && declared) ≡ false
+out_of_scope true declared e = refl
+out_of_scope false true e = absurd cc
+out_of_scope false false e = refl
 
 -- a use of a name that is no value's
 abbrev IsOtherUse : NameContext → List Item → ℕ → Option FileCode → Type 0
@@ -242,32 +254,33 @@ never_missed_again context front k values h =
 -- ---- the item and its example
 
 pub name_used : (context : NameContext) (front : List Item) (s : Sign) (values : List ℤ) → IsNameFault context front s (Some (Undeclared (Some values))) → IsExample context front s values true
-name_used context front (signs.Name n) values h = elim (has_main front) as (λ b. has_main front ≡ b → IsEither b (IsUseFault context front n (Some (Undeclared (Some values)))) (IsDeclarationFault context front n (Some (Undeclared (Some values)))) → IsExample context front (signs.Name n) values true) [
+name_used context front (signs.Name n) values h = elim (is_used_behind front) as (λ b. is_used_behind front ≡ b → IsEither b (IsUseFault context front n (Some (Undeclared (Some values)))) (IsDeclarationFault context front n (Some (Undeclared (Some values)))) → IsExample context front (signs.Name n) values true) [
   | true ↦ λ m u. (let w = missed_use context front n values u in
-      let k = both_so (is_kept (family.truths_at context values) front) (not (is_among n (declared_at (family.truths_at context values) front))) w.1 in
-      record { main_is = m; valid = w.0; stays = k.0; is = inl (record { name = n; sign_is = refl; declared = not_so (is_among n (declared_at (family.truths_at context values) front)) k.1; free = λ e. missed_free context front n values u }) })
+      let declared : Bool = is_among n (declared_at (family.truths_at context values) front) in
+      let k = both_so (is_kept (family.truths_at context values) front) (is_in_own front n || not declared) w.1 in
+      record { valid = w.0; stays = k.0; is = inl (record { name = n; sign_is = refl; use_is = m; declared = out_of_scope (is_in_own front n) declared k.1; free = λ e. missed_free context front n values u }) })
   | false ↦ λ m d. absurd (never_missed context front n values d)
 ] refl h
 name_used context front (signs.Function f) values h = elim (has_main front) as (λ b. has_main front ≡ b → IsEither b (IsCallFault context front f (Some (Undeclared (Some values)))) (IsPrototypeFault context front f (Some (Undeclared (Some values)))) → IsExample context front (signs.Function f) values true) [
   | true ↦ λ m u. (let w = missed_call context front f values u in
       let callable : List ℕ = callable_at (family.truths_at context values) (stands_behind is_equals front) front in
       let k = both_so (is_kept (family.truths_at context values) front) (not (is_among f callable)) w.1 in
-      record { main_is = m; valid = w.0; stays = k.0; is = inr (record { function = f; sign_is = refl; declared = not_so (is_among f callable) k.1 }) })
+      record { valid = w.0; stays = k.0; is = inr (record { function = f; sign_is = refl; main_is = m; declared = not_so (is_among f callable) k.1 }) })
   | false ↦ λ m d. absurd (never_missed_again context front f values d)
 ] refl h
 name_used context front _ values h = absurd cc
 
 pub name_again : (context : NameContext) (front : List Item) (s : Sign) (values : List ℤ) → IsNameFault context front s (Some (Twice (Some values))) → IsExample context front s values false
-name_again context front (signs.Name n) values h = elim (has_main front) as (λ b. has_main front ≡ b → IsEither b (IsUseFault context front n (Some (Twice (Some values)))) (IsDeclarationFault context front n (Some (Twice (Some values)))) → IsExample context front (signs.Name n) values false) [
+name_again context front (signs.Name n) values h = elim (is_used_behind front) as (λ b. is_used_behind front ≡ b → IsEither b (IsUseFault context front n (Some (Twice (Some values)))) (IsDeclarationFault context front n (Some (Twice (Some values)))) → IsExample context front (signs.Name n) values false) [
   | true ↦ λ m u. absurd (never_twice context front n values u)
   | false ↦ λ m d. (let w = missed_again context front n values d in
       let k = both_so (is_kept (family.truths_at context values) front) (is_among n (declared_at (family.truths_at context values) front)) w.1 in
-      record { main_is = m; valid = w.0; stays = k.0; is = inl (record { name = n; sign_is = refl; declared = k.1; free = λ e. absurd cc }) })
+      record { valid = w.0; stays = k.0; is = inl (record { name = n; sign_is = refl; use_is = m; declared = k.1; free = λ e. absurd cc }) })
 ] refl h
 name_again context front (signs.Function f) values h = elim (has_main front) as (λ b. has_main front ≡ b → IsEither b (IsCallFault context front f (Some (Twice (Some values)))) (IsPrototypeFault context front f (Some (Twice (Some values)))) → IsExample context front (signs.Function f) values false) [
   | true ↦ λ m u. absurd (never_twice_called context front f values u)
   | false ↦ λ m d. (let w = met_unlike context front f values d in
       let k = both_so (is_kept (family.truths_at context values) front) (is_among f (functions_at (family.truths_at context values) (not (stands_behind is_void front)) front)) w.1 in
-      record { main_is = m; valid = w.0; stays = k.0; is = inr (record { function = f; sign_is = refl; declared = k.1 }) })
+      record { valid = w.0; stays = k.0; is = inr (record { function = f; sign_is = refl; main_is = m; declared = k.1 }) })
 ] refl h
 name_again context front _ values h = absurd cc

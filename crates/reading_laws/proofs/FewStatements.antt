@@ -6,9 +6,9 @@ use Rattle.c_tree.specs.Tree.{Code, Done, Assign, Input, Assert, If, While, Bloc
 use Rattle.c_grammar.specs.declared.items.Item.{Item}
 use Rattle.c_grammar.specs.declared.items.Sign.TheVariants as signs
 use Rattle.c_grammar.specs.Grammar as grammar
-use Rattle.c_grammar.specs.Grammar.{Shape, File, Returns, at}
+use Rattle.c_grammar.specs.Grammar.{Qualifier, Shape, File, Returns, at}
 use Rattle.c_grammar.specs.Within as within
-use Rattle.c_grammar.specs.Within.{WritesIn, BodyWithin, MainWithin, FormsWithin, SpellsWithin}
+use Rattle.c_grammar.specs.Within.{LocalWithin, WritesIn, BodyWithin, MainWithin, FormsWithin, SpellsWithin}
 use Rattle.reading_laws.proofs.MadePrograms.{count_of}
 
 count-followed : (a b : Code) → count_of (followed a b) ≡ count_of a + count_of b
@@ -51,11 +51,21 @@ with_two n m l h = omega arith
 with_three : (n m k l : ℕ) → n + (m + k) ≤ l → suc (n + (m + k)) ≤ suc l
 with_three n m k l h = omega arith
 
+local_counted : {kind : Qualifier} {ts : List Item} {c : Code} → LocalWithin kind ts c → count_of c ≤ length ts
+local_counted (within.uninitialised p x) = one_of _
+local_counted (within.initialised p q x e) = one_of _
+local_counted (within.from_call p q r s t x f) = one_of _
+
 counted : {k : ℕ} {s : Shape} {ts : List Item} {c : Code} → WritesIn k s ts c → count_of c ≤ length ts
 counted within.none = le_refl 0
 counted (within.more {b} {ts} {us} {c} {d} {k} s l) = subst (λ (n : ℕ). n ≤ length (ts ++ us)) (sym (count-followed c d)) (two_lists (count_of c) (count_of d) ts us (counted s) (counted l))
 counted (within.choice p n {ts} {us} {vs} {c} {d} {e} {k} s t l) =
     with_three (count_of c) (count_of d) (count_of e) (length (ts ++ (us ++ vs))) (two_lists (count_of c) (count_of d + count_of e) ts (us ++ vs) (counted s) (two_lists (count_of d) (count_of e) us vs (counted t) (counted l)))
+counted (within.local {ts} {us} {vs} {c} {d} {kind} {k} q v l) =
+    subst (λ (n : ℕ). n ≤ length (ts ++ (us ++ vs))) (sym (count-followed c d)) (behind_some (count_of c + count_of d) ts (us ++ vs) (two_lists (count_of c) (count_of d) us vs (counted v) (counted l)))
+counted (within.last_local p {ts} {c} d) = then_some (count_of c) ts _ (local_counted d)
+counted (within.next_local p {ts} {us} {c} {d} {kind} {k} e v) =
+    subst (λ (n : ℕ). n ≤ length (ts ++ at p signs.Comma ∷ us)) (sym (count-followed c d)) (two_lists (count_of c) (count_of d) ts (at p signs.Comma ∷ us) (local_counted e) (more_of (count_of d) _ (counted v)))
 counted (within.ends p) = omega arith
 counted (within.otherwise p q {ts} {c} s) = more_of (count_of c) _ (then_some (count_of c) ts _ (counted s))
 counted (within.elif p n {ts} {us} {c} {d} s t) = with_two (count_of c) (count_of d) _ (two_lists (count_of c) (count_of d) ts us (counted s) (counted t))

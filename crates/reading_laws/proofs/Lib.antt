@@ -6,7 +6,6 @@ pub mod Declared
 pub mod KnownNames
 pub mod Words
 pub mod Numbered
-pub mod KeptMain
 pub mod Early
 pub mod OtherFaults
 pub mod OutsideNames
@@ -14,6 +13,8 @@ pub mod OutsideFaults
 pub mod Examples
 pub mod Shown
 pub mod DeclaredConstants
+pub mod KeptLocals
+pub mod KeptLocalConstants
 pub mod Collecting
 pub mod NumberedFormulas
 pub mod LineAnswers

@@ -7,10 +7,10 @@ use Rattle.cpp_conditions.specs.declared.models.Model.{Model}
 use Rattle.c_grammar.specs.declared.items.Item.{Item}
 use Rattle.c_grammar.specs.declared.items.Sign.{Sign}
 use Rattle.c_grammar.specs.declared.items.Sign.TheVariants as signs
-use Rattle.c_grammar.specs.Constants.{changed_at}
+use Rattle.c_grammar.specs.Changes.{changed_at}
 use Rattle.c_grammar.specs.Functions.{is_equals, stands_behind}
 use Rattle.family_names.specs.Functions.{callable_by}
-use Rattle.family_names.specs.Names.{NameContext, has_main, declared_by, constants_of, values_of, is_among, is_missed, is_met_again, is_met_constant, is_met_unlike, is_uncallable, is_feature, is_value, value_fault, new_name_fault, function_fault, code_with, changed_place, IsWithFirst, IsEither, IsUseFault, IsDeclarationFault, IsCallFault, IsPrototypeFault, IsNameFault, IsChangeOf, IsChangeFault, IsThisOr, IsChangeOr, IsFaultFrom}
+use Rattle.family_names.specs.Names.{NameContext, has_main, is_used_behind, declared_by, constants_of, values_of, is_among, is_missed, is_met_again, is_met_constant, is_met_unlike, is_uncallable, is_feature, is_value, value_fault, new_name_fault, function_fault, code_with, changed_place, IsWithFirst, IsEither, IsUseFault, IsDeclarationFault, IsCallFault, IsPrototypeFault, IsNameFault, IsChangeOf, IsChangeFault, IsThisOr, IsChangeOr, IsFaultFrom}
 use Rattle.reading_laws.specs.Answered.{FirstConfigurationsAreFound, NamesAreJudged}
 
 -- ---- one item
@@ -47,7 +47,7 @@ prototype_answer law context before k = with_first law context.model (is_met_unl
 
 name_answer : FirstConfigurationsAreFound → (context : NameContext) (before : List Item) (sign : Sign) → (fault : Option FileCode) × IsNameFault context before sign fault
 name_answer law context before (signs.Name x) =
-    one_of (has_main before) (λ (fault : Option FileCode). IsUseFault context before x fault) (λ (fault : Option FileCode). IsDeclarationFault context before x fault) (use_answer law context before x) (declaration_answer law context before x)
+    one_of (is_used_behind before) (λ (fault : Option FileCode). IsUseFault context before x fault) (λ (fault : Option FileCode). IsDeclarationFault context before x fault) (use_answer law context before x) (declaration_answer law context before x)
 name_answer law context before (signs.Function k) =
     one_of (has_main before) (λ (fault : Option FileCode). IsCallFault context before k fault) (λ (fault : Option FileCode). IsPrototypeFault context before k fault) (call_answer law context before k) (prototype_answer law context before k)
 name_answer law context before _ = (None, refl)

@@ -1,7 +1,7 @@
 -- The names of a family are those that it declares, and features.
 use Rattle.std.proofs.Common.{◌≡◌, ◌⊎◌, ℕ, zero, suc, ◌+◌, ◌<◌, nat_eq, Bool, true, false, not, ◌||◌, cond, List, [], ◌∷◌, ◌++◌, length, map, get_or, slice_get, Option, Some, None, Result, Ok, Err, refl, sym, ap, subst, ◌∙◌, append_assoc, append-nil, inl, inr, arith}
 use Rattle.std.specs.Prelude.{if◌then◌else◌}
-use Rattle.std.specs.List.{filter, list_any}
+use Rattle.std.specs.List.{list_any}
 use Rattle.std.specs.Str.{bytes_eq}
 use Rattle.std.proofs.lemmas.Bool.{or_right, eqb-true, eq-eqb}
 use Rattle.std.proofs.lemmas.Slice.Eq.{bytes_eq-Decides}
@@ -28,16 +28,19 @@ use Rattle.c_tokens.specs.Reading.{tokens_of}
 use Rattle.c_grammar.specs.declared.items.Item.{Item}
 use Rattle.c_grammar.specs.declared.items.Sign.{Sign}
 use Rattle.c_grammar.specs.declared.items.Sign.TheVariants as signs
+use Rattle.c_grammar.specs.Grammar.{at}
 use Rattle.c_grammar.specs.Within.{WithinIsFile}
-use Rattle.family_names.specs.Names.{NameContext, is_main, until_main, name_of, names_of, declared_by, is_among, is_feature, is_feature_name}
+use Rattle.family_names.specs.Names.{NameContext, name_of, names_of, declared_by, is_among, is_feature, is_feature_name, is_value, is_used_behind, IsEither}
+use Rattle.family_names.proofs.Declared.{names_append, more_named, still_used, still_other}
 use Rattle.c_parser.specs.declared.family.Family.{Family}
-use Rattle.c_parser.specs.FamilyItems.{HasItems, feature_names, group_sign, or_directive, is_name, has}
+use Rattle.c_parser.specs.FamilyItems.{HasItems, feature_names, group_sign, or_directive}
 use Rattle.c_parser.specs.FamilyReading.{IsFamilyOf, context_of}
 use Rattle.c_parser.specs.Functions.{own_functions}
 use Rattle.c_parser.specs.Items.{Listed, listed, with_name, names_from, items_over, AreDistinct}
 use Rattle.c_parser.specs.Names.{names_at, each_once}
 use Rattle.c_parser.specs.Order.{arranged}
 use Rattle.c_parser.specs.Reading.{items_of_code}
+use Rattle.c_parser.proofs.AmongNumbers.{or_cases}
 use Rattle.c_parser.proofs.Arranging.{arranged_among}
 use Rattle.c_parser.proofs.CodePieces.{lines_blank, same_length}
 use Rattle.c_parser.proofs.FamilyNames.{by_line_of}
@@ -48,14 +51,10 @@ use Rattle.c_parser.proofs.OwnNames.{distinct_from}
 use Rattle.c_parser.proofs.Renumbering.{fit_anew, listed_anew}
 use Rattle.c_parser.proofs.TokenLines.{item_below, alone, by_piece}
 use Rattle.reading_laws.specs.Declaring.{DeclarationsAreOfTheGrammar, FamiliesHaveDeclaredNames, AreFamilyNames, without_features}
-use Rattle.reading_laws.proofs.KnownNames.{or_cases, value_named, names_known}
-use Rattle.reading_laws.proofs.Words.{words, names_are_words, items_are_words, names_below, AreIn, in_once, once_both, once_keeps}
+use Rattle.reading_laws.proofs.KnownNames.{value_named, IsKnown, AreKnown, names_known}
+use Rattle.reading_laws.proofs.Words.{words, names_are_words, items_are_words, names_below, AreIn, in_once, once_both}
 
 -- ---- the names of a family's items are those of its tokens
-
-names_both : (xs ys : List Item) → names_of (xs ++ ys) ≡ names_of xs ++ names_of ys
-names_both [] ys = refl
-names_both (x ∷ xs) ys = ap (λ (ns : List ℕ). name_of x.sign ++ ns) (names_both xs ys) ∙ sym (append_assoc (name_of x.sign) (names_of xs) (names_of ys))
 
 no_group_name : (o : Option Sign) → o ≡ None → (place : Place) (xs : List Item) → names_of (or_directive o place xs) ≡ names_of xs
 no_group_name o e place xs = ap (λ (p : Option Sign). names_of (or_directive p place xs)) e
@@ -77,10 +76,10 @@ lines_names functions names n [] [] s b = refl
 lines_names functions names n [] (p ∷ ps) s b = absurd s
 lines_names functions names n (l ∷ ls) [] s b = absurd s
 lines_names functions names n (l ∷ ls) (p ∷ ps) s b =
-    names_both (or_directive (group_sign l.kind) l.place (map (item_below n) (alone functions names p))) (by_both functions names (n + 1) ls ps)
+    names_append (or_directive (group_sign l.kind) l.place (map (item_below n) (alone functions names p))) (by_both functions names (n + 1) ls ps)
     ∙ ap (λ (ms : List ℕ). ms ++ names_of (by_both functions names (n + 1) ls ps)) (line_names functions names n l p b.0)
     ∙ ap (λ (ms : List ℕ). names_of (map (item_below n) (alone functions names p)) ++ ms) (lines_names functions names (n + 1) ls ps s b.1)
-    ∙ sym (names_both (map (item_below n) (alone functions names p)) (by_piece functions names (n + 1) ps))
+    ∙ sym (names_append (map (item_below n) (alone functions names p)) (by_piece functions names (n + 1) ps))
 
 -- so are those of a family
 family_names : TextLaws → (dialect : Dialect) (model : Model) (bytes : List ℕ) (told : Told) (l : Listed) → (h : HasItems dialect (plain model) bytes told l) → names_of l.items ≡ names_of h.tokens.items
@@ -115,15 +114,6 @@ twice : (functions given : List (List ℕ)) (code : List ℕ) (first second : Li
 twice functions given code first second (Ok ts) e f g = record { tokens = ts; read = e; first_is = same_list functions [] code first ts e f; second_is = same_list functions given code second ts e g }
 twice functions given code first second (Err fault) e f g = absurd (no_list functions code first fault e f)
 
--- ---- up to `main`
-
-front_of : (xs : List Item) → (more : List ℕ) × (names_of xs ≡ names_of (until_main xs) ++ more)
-front_of [] = ([], refl)
-front_of (x ∷ xs) = elim (is_main x.sign) as (λ b. (more : List ℕ) × (name_of x.sign ++ names_of xs ≡ names_of (cond b [] (x ∷ until_main xs)) ++ more)) [
-  | true ↦ (name_of x.sign ++ names_of xs, refl)
-  | false ↦ (let r = front_of xs in (r.0, ap (λ (ns : List ℕ). name_of x.sign ++ ns) r.1 ∙ sym (append_assoc (name_of x.sign) (names_of (until_main xs)) r.0)))
-]
-
 -- ---- features among names
 
 -- a name of the model's features, by its number
@@ -150,59 +140,51 @@ feature_at context x lt = ap (is_feature_name context.model) (got context.names 
 
 -- ---- the names that are no features'
 
--- none of these names is a feature's
-abbrev AreFree : List (List ℕ) → List (List ℕ) → Type 0
-AreFree features [] = Unit {0}
-AreFree features (w ∷ ws) = (list_any (bytes_eq w) features ≡ false) × AreFree features ws
+-- a name that is no feature's stands among these where it stands among all
+among_free : (features seen : List (List ℕ)) (w : List ℕ) → list_any (bytes_eq w) features ≡ false → list_any (bytes_eq w) (without_features features seen) ≡ list_any (bytes_eq w) seen
+among_free features [] w h = refl
+among_free features (v ∷ vs) w h = elim (list_any (bytes_eq v) features) as (λ b. list_any (bytes_eq v) features ≡ b → list_any (bytes_eq w) (cond (not b) (v ∷ without_features features vs) (without_features features vs)) ≡ (bytes_eq w v || list_any (bytes_eq w) vs)) [
+  | true ↦ λ e. among_free features vs w h ∙ ap (λ (b : Bool). b || list_any (bytes_eq w) vs) (sym (other v e))
+  | false ↦ λ _. ap (λ (b : Bool). bytes_eq w v || b) (among_free features vs w h)
+] refl
+  where
+    other : (v : List ℕ) → list_any (bytes_eq v) features ≡ true → bytes_eq w v ≡ false
+    other v e = elim (bytes_eq w v) as (λ b. bytes_eq w v ≡ b → b ≡ false) [
+      | true ↦ λ k. (let bad : true ≡ false = sym e ∙ ap (λ (u : List ℕ). list_any (bytes_eq u) features) (sym ((bytes_eq-Decides w v).0 k)) ∙ h in absurd cc)
+      | false ↦ λ _. refl
+    ] refl
 
-free_both : (features ws vs : List (List ℕ)) → AreFree features ws → AreFree features vs → AreFree features (ws ++ vs)
-free_both features [] vs h k = k
-free_both features (w ∷ ws) vs h k = (h.0, free_both features ws vs h.1 k)
+free_more : (features seen : List (List ℕ)) (w : List ℕ) → list_any (bytes_eq w) features ≡ false → without_features features (with_name seen w) ≡ with_name (without_features features seen) w
+free_more features seen w h = elim (list_any (bytes_eq w) seen) as (λ b. list_any (bytes_eq w) seen ≡ b → without_features features (if b then seen else seen ++ w ∷ []) ≡ with_name (without_features features seen) w) [
+  | true ↦ λ e. sym (ap (λ (b : Bool). if b then without_features features seen else without_features features seen ++ w ∷ []) (among_free features seen w h ∙ e))
+  | false ↦ λ e. filter-append (λ name. not (list_any (bytes_eq name) features)) seen (w ∷ [])
+      ∙ ap (λ (b : Bool). without_features features seen ++ cond (not b) (w ∷ []) []) h
+      ∙ sym (ap (λ (b : Bool). if b then without_features features seen else without_features features seen ++ w ∷ []) (among_free features seen w h ∙ e))
+] refl
 
-free_with : (features seen : List (List ℕ)) (w : List ℕ) → AreFree features seen → list_any (bytes_eq w) features ≡ false → AreFree features (with_name seen w)
-free_with features seen w h e = elim (list_any (bytes_eq w) seen) as (λ b. AreFree features (if b then seen else seen ++ w ∷ [])) [
-  | true ↦ h
-  | false ↦ free_both features seen (w ∷ []) h (e, tt)
-]
+among_all : (features seen : List (List ℕ)) (w : List ℕ) → list_any (bytes_eq w) (without_features features seen) ≡ true → list_any (bytes_eq w) seen ≡ true
+among_all features [] w h = h
+among_all features (v ∷ vs) w h = elim (list_any (bytes_eq v) features) as (λ b. list_any (bytes_eq w) (cond (not b) (v ∷ without_features features vs) (without_features features vs)) ≡ true → (bytes_eq w v || list_any (bytes_eq w) vs) ≡ true) [
+  | true ↦ λ k. or_right (bytes_eq w v) (list_any (bytes_eq w) vs) (among_all features vs w k)
+  | false ↦ λ k. (elim (or_cases (bytes_eq w v) (list_any (bytes_eq w) (without_features features vs)) k) [
+    | inl e ↦ ap (λ (b : Bool). b || list_any (bytes_eq w) vs) e
+    | inr e ↦ or_right (bytes_eq w v) (list_any (bytes_eq w) vs) (among_all features vs w e)
+  ])
+] h
 
-free_once : (features seen ws : List (List ℕ)) → AreFree features seen → AreFree features ws → AreFree features (each_once seen ws)
-free_once features seen [] h k = h
-free_once features seen (w ∷ ws) h k = free_once features (with_name seen w) ws (free_with features seen w h k.0) k.1
-
-free_stay : (features ws : List (List ℕ)) → AreFree features ws → without_features features ws ≡ ws
-free_stay features [] h = refl
-free_stay features (w ∷ ws) h =
-    ap (λ (b : Bool). cond (not b) (w ∷ without_features features ws) (without_features features ws)) h.0 ∙ ap (λ (vs : List (List ℕ)). w ∷ vs) (free_stay features ws h.1)
-
--- each of these names is a feature's, or among others
-abbrev AreOther : List (List ℕ) → List (List ℕ) → List (List ℕ) → Type 0
-AreOther features seen [] = Unit {0}
-AreOther features seen (w ∷ ws) = ((list_any (bytes_eq w) features ≡ true) ⊎ (list_any (bytes_eq w) seen ≡ true)) × AreOther features seen ws
-
-others_later : (features seen : List (List ℕ)) (v : List ℕ) (ws : List (List ℕ)) → AreOther features seen ws → AreOther features (with_name seen v) ws
-others_later features seen v [] h = tt
-others_later features seen v (w ∷ ws) h = (elim h.0 [ inl e ↦ inl e | inr e ↦ inr (once_keeps seen (v ∷ []) w e) ], others_later features seen v ws h.1)
-
-other_out : (features seen : List (List ℕ)) (w : List ℕ) → (list_any (bytes_eq w) features ≡ true) ⊎ (list_any (bytes_eq w) seen ≡ true) → without_features features (with_name seen w) ≡ without_features features seen
-other_out features seen w (inr e) = ap (λ (b : Bool). without_features features (if b then seen else seen ++ w ∷ [])) e
-other_out features seen w (inl e) = elim (list_any (bytes_eq w) seen) as (λ b. without_features features (if b then seen else seen ++ w ∷ []) ≡ without_features features seen) [
+-- a name that is a feature's or stands there is none more
+other_more : (features seen : List (List ℕ)) (w : List ℕ) → (list_any (bytes_eq w) features ≡ true) ⊎ (list_any (bytes_eq w) seen ≡ true) → without_features features (with_name seen w) ≡ without_features features seen
+other_more features seen w (inr e) = ap (λ (b : Bool). without_features features (if b then seen else seen ++ w ∷ [])) e
+other_more features seen w (inl e) = elim (list_any (bytes_eq w) seen) as (λ b. without_features features (if b then seen else seen ++ w ∷ []) ≡ without_features features seen) [
   | true ↦ refl
   | false ↦ filter-append (λ name. not (list_any (bytes_eq name) features)) seen (w ∷ [])
       ∙ ap (λ (b : Bool). without_features features seen ++ cond (not b) (w ∷ []) []) e ∙ append-nil (without_features features seen)
 ]
 
-others_out : (features seen ws : List (List ℕ)) → AreOther features seen ws → without_features features (each_once seen ws) ≡ without_features features seen
-others_out features seen [] h = refl
-others_out features seen (w ∷ ws) h = others_out features (with_name seen w) ws (others_later features seen w ws h.1) ∙ other_out features seen w h.0
-
 -- ---- by numbers
 
 number_among : (x : ℕ) (xs : List ℕ) → is_among x (x ∷ xs) ≡ true
 number_among x xs = ap (λ (b : Bool). b || is_among x xs) (eq-eqb x x refl)
-
-free_at : (features all : List (List ℕ)) (ds : List ℕ) → ((x : ℕ) → is_among x ds ≡ true → list_any (bytes_eq (get_or all x [])) features ≡ false) → AreFree features (names_at all ds)
-free_at features all [] h = tt
-free_at features all (d ∷ ds) h = (h d (number_among d ds), free_at features all ds (λ x e. h x (or_right (nat_eq x d) (is_among x ds) e)))
 
 name_among : (all : List (List ℕ)) (xs : List ℕ) (x : ℕ) → is_among x xs ≡ true → list_any (bytes_eq (get_or all x [])) (names_at all xs) ≡ true
 name_among all [] x h = absurd cc
@@ -211,25 +193,77 @@ name_among all (y ∷ ys) x h = elim (or_cases (nat_eq x y) (is_among x ys) h) [
   | inr e ↦ or_right (bytes_eq (get_or all x []) (get_or all y [])) (list_any (bytes_eq (get_or all x [])) (names_at all ys)) (name_among all ys x e)
 ]
 
-others_at : (features all seen : List (List ℕ)) (xs : List ℕ) → ((x : ℕ) → is_among x xs ≡ true → (list_any (bytes_eq (get_or all x [])) features ≡ true) ⊎ (list_any (bytes_eq (get_or all x [])) seen ≡ true)) → AreOther features seen (names_at all xs)
-others_at features all seen [] h = tt
-others_at features all seen (x ∷ xs) h = (h x (number_among x xs), others_at features all seen xs (λ y e. h y (or_right (nat_eq y x) (is_among y xs) e)))
+-- the names with these numbers, each once
+abbrev once_at : List (List ℕ) → List ℕ → List (List ℕ)
+once_at all xs = each_once [] (names_at all xs)
 
--- an item has the name
-has_named : (x : ℕ) (items : List Item) → is_among x (names_of items) ≡ true → has x items ≡ true
-has_named x [] h = absurd cc
-has_named x (i ∷ is) h = elim (or_cases (is_among x (name_of i.sign)) (is_among x (names_of is)) (sym (list_any-append (nat_eq x) (name_of i.sign) (names_of is)) ∙ h)) [
-  | inl e ↦ ap (λ (b : Bool). b || has x is) (this i.sign e)
-  | inr e ↦ or_right (is_name x i.sign) (has x is) (has_named x is e)
+once_more : (all : List (List ℕ)) (xs : List ℕ) (n : ℕ) → once_at all (xs ++ n ∷ []) ≡ with_name (once_at all xs) (get_or all n [])
+once_more all xs n = ap (each_once []) (map-append (λ (i : ℕ). get_or all i []) xs (n ∷ [])) ∙ once_both [] (names_at all xs) (get_or all n [] ∷ [])
+
+-- they stand there
+through : (seen ws : List (List ℕ)) → AreIn seen ws → (w : List ℕ) → list_any (bytes_eq w) ws ≡ true → list_any (bytes_eq w) seen ≡ true
+through seen [] h w e = absurd cc
+through seen (v ∷ ws) h w e = elim (or_cases (bytes_eq w v) (list_any (bytes_eq w) ws) e) [
+  | inl k ↦ subst (λ (u : List ℕ). list_any (bytes_eq u) seen ≡ true) (sym ((bytes_eq-Decides w v).0 k)) h.0
+  | inr k ↦ through seen ws h.1 w k
 ]
-  where
-    only : (a : Bool) → (a || false) ≡ true → a ≡ true
-    only true e = refl
-    only false e = absurd cc
 
-    this : (s : Sign) → is_among x (name_of s) ≡ true → is_name x s ≡ true
-    this (signs.Name y) e = only (nat_eq x y) e
-    this _ e = absurd cc
+among_once_at : (all : List (List ℕ)) (xs : List ℕ) (n : ℕ) → is_among n xs ≡ true → list_any (bytes_eq (get_or all n [])) (once_at all xs) ≡ true
+among_once_at all xs n h = through (once_at all xs) (names_at all xs) (in_once [] (names_at all xs)) (get_or all n []) (name_among all xs n h)
+
+-- ---- one item after another
+
+-- but for those of features, the names of the items are those that they declare
+abbrev AreTold : List (List ℕ) → List (List ℕ) → List Item → Type 0
+AreTold features all before = without_features features (once_at all (names_of before)) ≡ once_at all (declared_by before)
+
+-- the number is that of a feature's name
+abbrev IsLinked : NameContext → List (List ℕ) → List (List ℕ) → ℕ → Type 0
+IsLinked context features all n = is_feature context n ≡ list_any (bytes_eq (get_or all n [])) features
+
+named_more : (all : List (List ℕ)) (before : List Item) (p : Place) (n : ℕ) → once_at all (names_of (before ++ at p (signs.Name n) ∷ [])) ≡ with_name (once_at all (names_of before)) (get_or all n [])
+named_more all before p n = ap (once_at all) (names_append before (at p (signs.Name n) ∷ [])) ∙ once_more all (names_of before) n
+
+used_told : (context : NameContext) (features all : List (List ℕ)) (before : List Item) (p : Place) (n : ℕ) → is_used_behind before ≡ true → IsLinked context features all n → (is_among n (declared_by before) ≡ true) ⊎ (is_value context n ≡ true)
+    → AreTold features all before → AreTold features all (before ++ at p (signs.Name n) ∷ [])
+used_told context features all before p n u link known h =
+    let seen : List (List ℕ) = once_at all (names_of before) in
+    let here : (list_any (bytes_eq (get_or all n [])) features ≡ true) ⊎ (list_any (bytes_eq (get_or all n [])) (once_at all (names_of before)) ≡ true) = elim known [
+      | inl d ↦ inr (among_all features seen (get_or all n []) (ap (list_any (bytes_eq (get_or all n []))) h ∙ among_once_at all (declared_by before) n d))
+      | inr v ↦ inl (sym link ∙ value_named context n v)
+    ] in
+    ap (without_features features) (named_more all before p n) ∙ other_more features seen (get_or all n []) here ∙ h ∙ ap (once_at all) (sym (still_used before p n u).any)
+
+declared_told : (context : NameContext) (features all : List (List ℕ)) (before : List Item) (p : Place) (n : ℕ) → is_used_behind before ≡ false → IsLinked context features all n → is_feature context n ≡ false
+    → AreTold features all before → AreTold features all (before ++ at p (signs.Name n) ∷ [])
+declared_told context features all before p n u link free h =
+    ap (without_features features) (named_more all before p n) ∙ free_more features (once_at all (names_of before)) (get_or all n []) (sym link ∙ free)
+    ∙ ap (λ (ws : List (List ℕ)). with_name ws (get_or all n [])) h ∙ sym (once_more all (declared_by before) n) ∙ ap (once_at all) (sym (more_named before p n u).any)
+
+silent_told : (features all : List (List ℕ)) (before : List Item) (x : Item) → name_of x.sign ≡ [] → AreTold features all before → AreTold features all (before ++ x ∷ [])
+silent_told features all before x e h =
+    let same : names_of (before ++ x ∷ []) ≡ names_of before = names_append before (x ∷ []) ∙ ap (λ (ns : List ℕ). names_of before ++ (ns ++ [])) e ∙ append-nil (names_of before) in
+    ap (λ (ns : List ℕ). without_features features (once_at all ns)) same ∙ h ∙ ap (once_at all) (sym (still_other before x e).any)
+
+told_next : (context : NameContext) (features all : List (List ℕ)) (before : List Item) (p : Place) (s : Sign) → ((n : ℕ) → s ≡ signs.Name n → IsLinked context features all n) → ((n : ℕ) → s ≡ signs.Name n → IsKnown context before n)
+    → AreTold features all before → AreTold features all (before ++ at p s ∷ [])
+told_next context features all before p (signs.Name n) link known h =
+    elim (is_used_behind before) as (λ b. is_used_behind before ≡ b → IsEither b ((is_among n (declared_by before) ≡ true) ⊎ (is_value context n ≡ true)) (is_feature context n ≡ false) → AreTold features all (before ++ at p (signs.Name n) ∷ [])) [
+      | true ↦ λ u k. used_told context features all before p n u (link n refl) k h
+      | false ↦ λ u k. declared_told context features all before p n u (link n refl) k h
+    ] refl (known n refl)
+told_next context features all before p s link known h = silent_told features all before (at p s) refl h
+
+this_among : (n : ℕ) (s : Sign) (ns : List ℕ) → s ≡ signs.Name n → is_among n (name_of s ++ ns) ≡ true
+this_among n s ns e = ap (λ (t : Sign). is_among n (name_of t ++ ns)) e ∙ number_among n ns
+
+told_all : (context : NameContext) (features all : List (List ℕ)) (before xs : List Item) → ((n : ℕ) → is_among n (names_of xs) ≡ true → IsLinked context features all n) → AreKnown context before xs → AreTold features all before → AreTold features all (before ++ xs)
+told_all context features all before [] link known h = subst (AreTold features all) (sym (append-nil before)) h
+told_all context features all before (x ∷ xs) link known h =
+    let later : (n : ℕ) → is_among n (names_of xs) ≡ true → is_among n (name_of x.sign ++ names_of xs) ≡ true = λ n e. list_any-append (nat_eq n) (name_of x.sign) (names_of xs) ∙ or_right (is_among n (name_of x.sign)) (is_among n (names_of xs)) e in
+    subst (AreTold features all) (append_assoc before (x ∷ []) xs)
+    (told_all context features all (before ++ x ∷ []) xs (λ n e. link n (later n e)) known.1
+    (told_next context features all before x.place x.sign (λ n e. link n (this_among n x.sign (names_of xs) e)) known.0 h))
 
 -- ---- families
 
@@ -290,39 +324,9 @@ module _ (laws : TextLaws) (is_file : WithinIsFile) (law : DeclarationsAreOfTheG
   declared_first : without_features features own.first.names ≡ each_once [] (names_at all (declared_by list.items))
   declared_first =
       let b = both in
-      let known = names_known context [] list.items o.accepted.names in
-      let front = front_of list.items in
-      let ds = declared_by list.items in
-      let in_front : (x : ℕ) → is_among x (declared_by list.items) ≡ true → is_among x (names_of list.items) ≡ true = λ x e.
-      ap (is_among x) front.1 ∙ list_any-append (nat_eq x) (declared_by list.items) front.0 ∙ ap (λ (c : Bool). c || is_among x front.0) e in
-      let in_back : (x : ℕ) → is_among x front.0 ≡ true → is_among x (names_of list.items) ≡ true = λ x e.
-      ap (is_among x) front.1 ∙ list_any-append (nat_eq x) (declared_by list.items) front.0 ∙ or_right (is_among x (declared_by list.items)) (is_among x front.0) e in
-      let at : (x : ℕ) → is_among x (names_of list.items) ≡ true → is_feature context x ≡ list_any (bytes_eq (get_or all x [])) features = λ x e.
+      let link : (x : ℕ) → is_among x (names_of list.items) ≡ true → is_feature context x ≡ list_any (bytes_eq (get_or all x [])) features = λ x e.
       feature_at context x (subst (λ (ns : List (List ℕ)). x < length ns) (sym b.names) (b.below x e)) ∙ ap (λ (ns : List (List ℕ)). list_any (bytes_eq (get_or ns x [])) features) b.names in
-      let free : AreFree features (each_once [] (names_at all ds)) = free_once features [] (names_at all ds) tt
-      (free_at features all ds (λ x e. sym (at x (in_front x e)) ∙ (elim (known.free x e) [ inl none ↦ absurd (none_declared x none) | inr k ↦ k ]))) in
-      let others : AreOther features (each_once [] (names_at all ds)) (names_at all front.0) = others_at features all (each_once [] (names_at all ds)) front.0 (λ x e.
-      elim (known.named x (has_named x list.items (in_back x e))) [
-        | inl d ↦ inr (stands x ds (name_among all ds x d))
-        | inr k ↦ inl (sym (at x (in_back x e)) ∙ value_named context x k)
-      ]) in
-      let split : words functions b.code b.tokens ≡ names_at all ds ++ names_at all front.0 = sym b.items ∙ ap (names_at all) front.1 ∙ map-append (λ (i : ℕ). get_or all i []) ds front.0 in
-      ap (without_features features) (b.first ∙ ap (each_once []) split ∙ once_both [] (names_at all ds) (names_at all front.0))
-      ∙ others_out features (each_once [] (names_at all ds)) (names_at all front.0) others
-      ∙ free_stay features (each_once [] (names_at all ds)) free
-    where
-      none_declared : (x : ℕ) → is_among x (declared_by []) ≡ true → ⊥
-      none_declared x e = cc
-
-      through : (seen ws : List (List ℕ)) → AreIn seen ws → (w : List ℕ) → list_any (bytes_eq w) ws ≡ true → list_any (bytes_eq w) seen ≡ true
-      through seen [] h w e = absurd cc
-      through seen (v ∷ ws) h w e = elim (or_cases (bytes_eq w v) (list_any (bytes_eq w) ws) e) [
-        | inl k ↦ subst (λ (u : List ℕ). list_any (bytes_eq u) seen ≡ true) (sym ((bytes_eq-Decides w v).0 k)) h.0
-        | inr k ↦ through seen ws h.1 w k
-      ]
-
-      stands : (x : ℕ) (ds : List ℕ) → list_any (bytes_eq (get_or all x [])) (names_at all ds) ≡ true → list_any (bytes_eq (get_or all x [])) (each_once [] (names_at all ds)) ≡ true
-      stands x ds e = through (each_once [] (names_at all ds)) (names_at all ds) (in_once [] (names_at all ds)) (get_or all x []) e
+      ap (without_features features) (b.first ∙ ap (each_once []) (sym b.items)) ∙ told_all context features all [] list.items link (names_known context [] list.items o.accepted.names) refl
 
 pub families_have_declared_names : TextLaws → WithinIsFile → DeclarationsAreOfTheGrammar → FamiliesHaveDeclaredNames
 families_have_declared_names laws is_file law dialect model bytes f o =

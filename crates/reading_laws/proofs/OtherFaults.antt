@@ -6,7 +6,7 @@ use Rattle.fam_outer.specs.declared.faults.FileCode.TheVariants.{FeatureInCode, 
 use Rattle.c_grammar.specs.declared.constants.NameKind.TheVariants as kinds
 use Rattle.c_grammar.specs.declared.items.Item.{Item}
 use Rattle.c_grammar.specs.Constants.{is_constant, kind_after}
-use Rattle.family_names.specs.Names.{NameContext, declared_by, constants_of, variables_of, is_among, is_feature, is_feature_function, test_count, value_fault, full_fault, new_name_fault, function_fault}
+use Rattle.family_names.specs.Names.{NameContext, declared_by, constants_of, variables_of, values_of, is_among, is_feature, is_feature_function, test_count, value_fault, full_fault, new_name_fault, function_fault}
 use Rattle.reading_laws.proofs.Early.{is_of_name}
 
 abbrev pub some_code : FileCode → Option FileCode
@@ -43,6 +43,7 @@ not_of_function context k code h e = no_room code FeatureInCode (is_feature_func
 pub not_new : (context : NameContext) (front : List Item) (n : ℕ) (code : FileCode) → is_of_name code ≡ true → some_code code ≡ new_name_fault context front n → ⊥
 not_new context front n code h e =
     let constant : Bool = is_constant (kind_after kinds.Variable front) in
-    let full : Option FileCode = full_fault (is_constant (kind_after kinds.Variable front)) (length (constants_of front)) (length (variables_of front)) in
+    let held : ℕ = length (constants_of front) + length (values_of context front) in
+    let full : Option FileCode = full_fault constant held (length (variables_of front)) in
     no_room code FeatureInCode (is_feature context n) (if is_among n (declared_by front) then None else full) h refl
-    (λ k. no_fault_again code (is_among n (declared_by front)) full (λ g. not_full constant (length (constants_of front)) (length (variables_of front)) code h g) k) e
+    (λ k. no_fault_again code (is_among n (declared_by front)) full (λ g. not_full constant held (length (variables_of front)) code h g) k) e

@@ -3,7 +3,7 @@
 use Rattle.std.proofs.Common.{◌≡◌, ◌⊎◌, ℕ, Bool, true, false, not, ◌&&◌, ◌||◌, cond, List, [], ◌∷◌, ◌++◌, Option, Some, None, refl, sym, ap, subst, ◌∙◌, inl, inr}
 use Rattle.std.specs.Prelude.{ℤ, nat_eq, option_map, if◌then◌else◌}
 use Rattle.std.specs.List.{filter, list_any}
-use Rattle.std.proofs.lemmas.Bool.{eq-eqb, eqb-true, or_right}
+use Rattle.std.proofs.lemmas.Bool.{eq-eqb, or_right}
 use Rattle.std.proofs.lemmas.List.Folds.{list_any-append}
 use Rattle.fam_outer.specs.declared.faults.FileCode.{FileCode}
 use Rattle.fam_outer.specs.declared.faults.FileCode.TheVariants.{Undeclared, Twice, FeatureInCode, ChangedConstant}
@@ -14,18 +14,20 @@ use Rattle.cpp_lines.specs.Faults.{or_later}
 use Rattle.c_grammar.specs.declared.items.Item.{Item}
 use Rattle.c_grammar.specs.declared.items.Sign.{Sign}
 use Rattle.c_grammar.specs.declared.items.Sign.TheVariants as signs
-use Rattle.c_grammar.specs.Constants.{is_change, name_at, changed_from, changed_behind, last_from, changed_at}
+use Rattle.c_grammar.specs.Changes.{is_change, name_at, changed_from, changed_behind, changed_outside, changed_at}
+use Rattle.c_grammar.specs.Constants.{last_from}
 use Rattle.c_grammar.specs.Grammar.{is_group}
 use Rattle.c_grammar.specs.Kept.{directive_of, kept_from}
-use Rattle.family_names.specs.Names.{NameContext, declared_by, is_value, is_feature, IsFirstNameFault}
+use Rattle.c_grammar.specs.Locals.{is_in_own, open_behind}
+use Rattle.family_names.specs.Names.{NameContext, is_value, is_feature, IsFirstNameFault}
 use Rattle.family_names.proofs.Features.{no_value}
 use Rattle.c_parser.specs.FamilyItems.{is_name, has}
-use Rattle.c_parser.specs.Names.{Outside, has_main, constants_by, has_value, limit_fault, name_fault, change_fault, constant_fault, name_fault_from}
+use Rattle.c_parser.specs.Names.{Outside, has_main, is_used_behind, constants_by, has_value, limit_fault, name_fault, change_fault, constant_fault, name_fault_from}
 use Rattle.c_parser.specs.Names as alone
 use Rattle.c_parser.specs.Reading.{outside}
 use Rattle.c_parser.specs.Variants.{given_of}
 use Rattle.c_parser.proofs.KeptNames.{AreOutside}
-use Rattle.reading_laws.proofs.KnownNames.{value_named, names_known}
+use Rattle.reading_laws.proofs.KnownNames.{value_named, both_pass, names_free}
 use Rattle.reading_laws.proofs.OutsideNames.{none_outside, some_outside}
 
 abbrev some_code : FileCode → Option FileCode
@@ -43,20 +45,6 @@ features_at context values = (outside (given_of context.model.features context.f
 
 abbrev pub values_at : NameContext → List ℤ → List ℕ
 values_at context values = filter (is_value context) (features_at context values)
-
-both_pass : (P : ℕ → Bool) (xs : List ℕ) (n : ℕ) → list_any (nat_eq n) (filter P xs) ≡ (P n && list_any (nat_eq n) xs)
-both_pass P [] n = elim (P n) as (λ b. false ≡ (b && false)) [ true ↦ refl | false ↦ refl ]
-both_pass P (x ∷ xs) n = elim (P x) as (λ p. P x ≡ p → list_any (nat_eq n) (cond p (x ∷ filter P xs) (filter P xs)) ≡ (P n && (nat_eq n x || list_any (nat_eq n) xs))) [
-  | true ↦ λ px. (elim (nat_eq n x) as (λ e. nat_eq n x ≡ e → (e || list_any (nat_eq n) (filter P xs)) ≡ (P n && (e || list_any (nat_eq n) xs))) [
-    | true ↦ λ e. sym (ap (λ (b : Bool). b && true) (ap P (eqb-true n x e) ∙ px))
-    | false ↦ λ _. both_pass P xs n
-  ] refl)
-  | false ↦ λ px. (elim (nat_eq n x) as (λ e. nat_eq n x ≡ e → list_any (nat_eq n) (filter P xs) ≡ (P n && (e || list_any (nat_eq n) xs))) [
-    | true ↦ λ e. (let none : P n ≡ false = ap P (eqb-true n x e) ∙ px in
-        both_pass P xs n ∙ ap (λ (b : Bool). b && list_any (nat_eq n) xs) none ∙ sym (ap (λ (b : Bool). b && true) none))
-    | false ↦ λ _. both_pass P xs n
-  ] refl)
-] refl
 
 has_all : (context : NameContext) (values : List ℤ) (n : ℕ) → has_value (uncounted (features_at context values)) n ≡ is_feature context n
 has_all context values n = elim (is_feature context n) as (λ b. is_feature context n ≡ b → has_value (uncounted (features_at context values)) n ≡ b) [
@@ -107,6 +95,10 @@ agree_behind : (ns ms : List ℕ) (last : Option Item) (x : Item) → AgreeLast 
 agree_behind ns ms None x h k = tt
 agree_behind ns ms (Some y) x h k = agree_from ns ms y.place y.sign x h k
 
+agree_outside : (ns ms : List ℕ) (opened : Option ℕ) (last : Option Item) (x : Item) → AgreeLast ns ms last → AgreeAt ns ms x.sign → AgreeOn ns ms (changed_outside opened last x)
+agree_outside ns ms None last x h k = agree_behind ns ms last x h k
+agree_outside ns ms (Some y) last x h k = tt
+
 last_more : (last : Option Item) (before : List Item) (x : Item) → last_from last (before ++ x ∷ []) ≡ Some x
 last_more last [] x = refl
 last_more last (y ∷ ys) x = last_more (Some y) ys x
@@ -115,8 +107,9 @@ last_more last (y ∷ ys) x = last_more (Some y) ys x
 
 same_name : (ns ms : List ℕ) (before : List Item) (s : Sign) → AgreeAt ns ms s → name_fault (uncounted ns) before s ≡ name_fault (uncounted ms) before s
 same_name ns ms before (signs.Name n) h =
-    ap (λ (b : Bool). if has_main before then (if b || list_any (nat_eq n) (alone.declared_by before) then None else some_code (Undeclared None))
-    else (if list_any (nat_eq n) (alone.declared_by before) then some_code (Twice None) else (if b then some_code FeatureInCode else limit_fault (uncounted ns) n))) h
+    let declared : Bool = list_any (nat_eq n) (alone.declared_by before) in
+    ap (λ (b : Bool). if is_used_behind before then (if b || (not (is_in_own before n) && declared) then None else some_code (Undeclared None))
+    else (if declared then some_code (Twice None) else (if b then some_code FeatureInCode else limit_fault (uncounted ns) n))) h
 same_name ns ms before _ h = refl
 
 same_constant : (ns ms constants : List ℕ) (change : Option (ℕ × Place)) → AgreeOn ns ms change → constant_fault (ns ++ constants) change ≡ constant_fault (ms ++ constants) change
@@ -127,7 +120,7 @@ same_constant ns ms constants (Some change) h =
 
 same_change : (ns ms : List ℕ) (before : List Item) (x : Item) → AgreeLast ns ms (last_from None before) → AgreeAt ns ms x.sign → change_fault (uncounted ns) before x ≡ change_fault (uncounted ms) before x
 same_change ns ms before x h k =
-    ap (λ (o : Option (FileCode × Place)). if has_main before then o else None) (same_constant ns ms (constants_by before) (changed_at before x) (agree_behind ns ms (last_from None before) x h k))
+    ap (λ (o : Option (FileCode × Place)). if has_main before then o else None) (same_constant ns ms (constants_by before) (changed_at before x) (agree_outside ns ms (open_behind before) (last_from None before) x h k))
 
 same_from : (ns ms : List ℕ) (before xs : List Item) → AgreeLast ns ms (last_from None before) → AgreeIn ns ms xs → name_fault_from (uncounted ns) before xs ≡ name_fault_from (uncounted ms) before xs
 same_from ns ms before [] h k = refl
@@ -168,12 +161,5 @@ pub same_outside : (context : NameContext) (values : List ℤ) (truths : List Bo
     → alone.first_name_fault (outside (given_of context.model.features context.functions context.names values)) (kept_from truths [] items) ≡ alone.first_name_fault (uncounted (values_at context values)) (kept_from truths [] items)
 unfolding alone.first_name_fault
 same_outside context values truths items h =
-    let known = names_known context [] items h in
     same_from (features_at context values) (values_at context values) [] (kept_from truths [] items) tt
-    (agree_kept (features_at context values) (values_at context values) truths [] items (agree_all context values items (λ n e. elim (known.named n e) [
-      | inl d ↦ elim (known.free n d) [ inl none ↦ absurd (none_declared n none) | inr f ↦ inl f ]
-      | inr v ↦ inr v
-    ])))
-  where
-    none_declared : (n : ℕ) → list_any (nat_eq n) (declared_by []) ≡ true → ⊥
-    none_declared n e = cc
+    (agree_kept (features_at context values) (values_at context values) truths [] items (agree_all context values items (names_free context items h)))

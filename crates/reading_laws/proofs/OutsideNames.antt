@@ -9,7 +9,7 @@ use Rattle.linear_atoms.specs.declared.atoms.Feature.{Feature}
 use Rattle.cpp_conditions.specs.Expressions.{found}
 use Rattle.feature_values.specs.declared.feature_uses.Use.{Use}
 use Rattle.feature_values.specs.Declarators.{presets}
-use Rattle.feature_values.specs.Values.{use_at, uses_from, uses_of}
+use Rattle.feature_values.specs.Values.{use_at, uses_from}
 use Rattle.family_names.specs.Names.{NameContext, is_feature, is_feature_name}
 use Rattle.c_parser.specs.Names.{has_value}
 use Rattle.c_parser.specs.Reading.{outside}

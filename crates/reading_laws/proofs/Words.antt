@@ -1,5 +1,5 @@
 -- The identifiers of code, in their order: its names are these, each once.
-use Rattle.std.proofs.Common.{◌≡◌, inl, inr, ℕ, ◌<◌, Bool, true, false, ◌||◌, List, [], ◌∷◌, ◌++◌, length, get_or, Option, Some, None, refl, sym, ap, ◌∙◌, append_assoc, arith}
+use Rattle.std.proofs.Common.{◌≡◌, inl, inr, ℕ, ◌<◌, Bool, true, false, ◌||◌, List, [], ◌∷◌, ◌++◌, get_or, Option, Some, None, refl, sym, ap, ◌∙◌, arith}
 use Rattle.std.specs.Prelude.{nat_eq, IfSome, if◌then◌else◌}
 use Rattle.std.specs.List.{list_any}
 use Rattle.std.specs.Str.{bytes_eq}
@@ -15,12 +15,12 @@ use Rattle.c_grammar.specs.declared.items.Sign.{Sign}
 use Rattle.c_grammar.specs.declared.items.Sign.TheVariants as signs
 use Rattle.c_grammar.specs.Facts.{IsFit, AreFit}
 use Rattle.family_names.specs.Names.{name_of, names_of, is_among}
-use Rattle.c_parser.specs.Items.{is_function, number_in, with_name, identifier_sign, names_with_identifier, word_sign, sign_of, names_with_word, names_with, lexeme_in, names_from, items_over}
+use Rattle.c_parser.specs.Items.{is_function, with_name, identifier_sign, names_with_identifier, word_sign, sign_of, names_with_word, names_with, lexeme_in, names_from, items_over}
 use Rattle.c_parser.specs.Names.{names_at, each_once}
 use Rattle.c_parser.specs.Signs.{keyword_of, mark_of, sign_in, marks}
+use Rattle.c_parser.proofs.AmongNumbers.{or_cases}
 use Rattle.c_parser.proofs.Lexical.{IsConstant, keyword_constant, unwrapped_constant, table_constant, marks_constant}
 use Rattle.c_parser.proofs.NameNumbers.{at_number}
-use Rattle.reading_laws.proofs.KnownNames.{or_cases}
 
 abbrev name_unless : Bool → List ℕ → List (List ℕ)
 name_unless true w = []

@@ -10,9 +10,10 @@ use c_tokens::laws::{lines_are_apart, literals_are_numbers, one_reading, reads_l
 use cpp_lines::laws::{texts_are_read_once, variants_are_plain};
 use fam_outer::places_rise;
 
-/// What stands as declared by the items of a file with groups, each name before `main`, is what the grammar declares: the
-/// targets of its declarators, in the order of the text; and where the conditions have truths, of those whose guards hold.
-/// What stands as a constant there is what the grammar has in a declaration with `const` or `enum`, or in a definition.
+/// What stands as declared by the items of a file with groups, each name before `main` and the names of declarations in it, is
+/// what the grammar declares: the targets of its declarators, in the order of the text; and where the conditions have truths,
+/// of those whose guards hold. What stands as a constant there is what the grammar has in a declaration with `const` or
+/// `enum`, or in a definition.
 pub fn declarations_of_families_are_those_of_the_grammar()
     ensures all { DeclarationsAreOfTheGrammar }
     ensures kept { KeptDeclarationsHold }
@@ -21,8 +22,9 @@ pub fn declarations_of_families_are_those_of_the_grammar()
     declarations_are_those_of_the_grammar();
 }
 
-/// The names of a family are those that its file declares by the grammar, each once: the variables, and behind them the
-/// constants, both in the order of their first declaration; and behind these the features that its code names.
+/// The names of a family are those that its file declares by the grammar, before `main` and in it, each once: the variables,
+/// and behind them the constants, both in the order of their first declaration; and behind these the features that its code
+/// names.
 pub fn families_have_the_names_that_they_declare()
     ensures { FamiliesHaveDeclaredNames }
 {
@@ -36,9 +38,10 @@ pub fn families_have_the_names_that_they_declare()
     declarations_of_families_are_those_of_the_grammar();
 }
 
-/// Where a file with groups is refused for a name that some valid configuration uses without a declaration, or declares
-/// twice, the example is such a configuration: the text of its variant, read over the names of the file and the values of the
-/// features among them, is refused with the same code at the same place. So it is with functions, which are called or declared.
+/// Where a file with groups is refused for a name that some valid configuration uses without a declaration or in its own
+/// declarator, or declares twice, the example is such a configuration: the text of its variant, read over the names of the file
+/// and the values of the features among them, is refused with the same code at the same place. So it is with functions, which
+/// are called or declared.
 pub fn refusals_of_names_are_shown()
     ensures undeclared { UndeclaredNamesAreShown }
     ensures twice { SecondDeclarationsAreShown }

@@ -92,7 +92,7 @@ fn other_forms_are_refused(rt: HostRuntime) -> Result<(), Fail> {
             11,
         ),
         (b"int const main(void) { }", "Syntax", 1, 11),
-        (b"int main(void) { const int k = 1; }", "Syntax", 1, 18),
+        (b"int main(void) { const int k; }", "Syntax", 1, 29),
     ];
     for (file, wanted, line, column) in cases {
         refuses(&rt, rt.alloc(), file, wanted, line, column)?;

@@ -131,7 +131,7 @@ fn refusals(rt: HostRuntime) -> Result<(), Fail> {
             44,
         ),
         (b"int goto;\nint main(void) { }", "Syntax", 1, 5),
-        (b"int main(void) { int y; }", "Syntax", 1, 18),
+        (b"int main(void) { int y = 1; int; }", "Syntax", 1, 32),
         (b"int main(void) { } int x;", "Syntax", 1, 20),
         (b"static int main(void) { }", "Syntax", 1, 12),
         (b"int x;\nint main(void) { x = 1 }", "Syntax", 2, 24),

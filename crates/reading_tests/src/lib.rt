@@ -32,6 +32,8 @@ mod line_variants;
 #[cfg(test)]
 mod lines;
 #[cfg(test)]
+mod locals;
+#[cfg(test)]
 mod names;
 #[cfg(test)]
 mod sections;

@@ -87,7 +87,7 @@ fn other_forms_are_refused(rt: HostRuntime) -> Result<(), Fail> {
         (b"extern signed int x;\nint main(void) { }", "Syntax", 1, 19),
         (b"signed int;\nint main(void) { }", "Syntax", 1, 11),
         (b"int int32_t;\nint main(void) { }", "Syntax", 1, 5),
-        (b"int main(void) { int32_t x; }", "Syntax", 1, 18),
+        (b"int main(void) { int32_t int x; }", "Syntax", 1, 26),
         (b"unsigned x;\nint main(void) { }", "Syntax", 1, 1),
         (
             b"int x;\nint main(void) { x = (void)input(); }",

@@ -1,4 +1,4 @@
-use Rattle.std.proofs.Common.{refl}
+use Rattle.std.proofs.Common.{◌≡◌, length, refl, sym, ◌∙◌, arith}
 use Rattle.std.proofs.lemmas.Result.{IfOk-weaker}
 use Rattle.family_names.specs.NameContexts.{plain}
 use Rattle.family_names.specs.declared.faults.Seen.{Seen}
@@ -10,16 +10,18 @@ pub returns-in-Main : goal.returns-in-Main
 returns-in-Main c = λ before k a s i.
     at_main (plain c.args.context.now) before c.args.sign c.args.seen.now _ c.args.used.now c.args.settled.now.items c.in-Main.is k a s refl refl (record { names = refl; constants = refl; variables = refl; declarations = refl }) refl
 
-pub returns-then-seen : goal.returns-then-seen
-returns-then-seen c = λ before k a s i. IfOk-weaker c.use_fault.result (λ fault. Uses (plain c.args.context.now) c.args.seen.now c.args.used.now c.use_fault.new.settled.items c.in-Name.number c.use_fault.new.used fault)
+pub returns-then-uses_next : goal.returns-then-uses_next
+returns-then-uses_next c = λ before k a s i. IfOk-weaker c.use_fault.result (λ fault. Uses (plain c.args.context.now) c.args.seen.now c.args.used.now c.use_fault.new.settled.items c.is_in_own-is_own.result c.in-Name.number c.use_fault.new.used fault)
     (λ fault. Judges (plain c.args.context.now) before c.args.sign c.args.seen.now c.use_fault.new.used c.use_fault.new.settled.items fault)
-    (λ fault u. at_use (plain c.args.context.now) before c.args.sign c.args.seen.now c.args.used.now c.use_fault.new.used c.use_fault.new.settled.items c.in-Name.number fault c.in-Name.is c.if-seen.true k a u)
+    (λ fault u. at_use (plain c.args.context.now) before c.args.sign c.args.seen.now c.args.used.now c.use_fault.new.used c.use_fault.new.settled.items c.is_in_own-is_own.result c.in-Name.number fault c.in-Name.is
+    (sym (c.uses_next.ensures before k i) ∙ c.if-uses_next.true) (c.is_in_own-is_own.ensures before i) k a u)
     (c.use_fault.ensures a.tests s)
 
-pub returns-else-seen : goal.returns-else-seen
-returns-else-seen c = λ before k a s i. IfOk-weaker c.declare.result (λ fault. Declares (plain c.args.context.now) c.args.seen.now c.is_constant.result c.in-Name.number c.declare.new.seen fault)
+pub returns-else-uses_next : goal.returns-else-uses_next
+returns-else-uses_next c = λ before k a s i. IfOk-weaker c.declare.result (λ fault. Declares (plain c.args.context.now) c.args.seen.now c.len-values.result c.is_constant.result c.in-Name.number c.declare.new.seen fault)
     (λ fault. Judges (plain c.args.context.now) before c.args.sign c.declare.new.seen c.args.used.now c.args.settled.now.items fault)
-    (λ fault d. at_declaration (plain c.args.context.now) before c.args.sign c.args.seen.now c.declare.new.seen c.args.used.now c.args.settled.now.items c.is_constant.result c.in-Name.number fault c.in-Name.is c.if-seen.false k a s (c.is_constant.ensures before i) d)
+    (λ fault d. at_declaration (plain c.args.context.now) before c.args.sign c.args.seen.now c.declare.new.seen c.args.used.now c.args.settled.now.items c.len-values.result c.is_constant.result c.in-Name.number fault c.in-Name.is
+    (sym (c.uses_next.ensures before k i) ∙ c.if-uses_next.false) k a s (c.is_constant.ensures before i) (let n : c.len-values.result ≡ length c.args.used.now.names.items = omega (arith, c.len-values.ensures) in n) d)
     (c.declare.ensures (seen_named before c.args.seen.now k))
 
 pub returns-in_ok-pass-in_default : goal.returns-in_ok-pass-in_default
@@ -27,15 +29,15 @@ returns-in_ok-pass-in_default c = λ before k a s i.
     at_other (plain c.args.context.now) before c.args.sign c.args.seen.now _ c.args.used.now c.args.settled.now.items (other_sign c.args.sign c.in_default.not-Name c.in_default.not-Function c.in_default.not-Main) k a s c.in_ok-pass-in_default.ensures refl
     (record { names = refl; constants = refl; variables = refl; declarations = refl }) refl
 
-pub returns-then-seen-2 : goal.returns-then-seen-2
-returns-then-seen-2 c = λ before k a s i. IfOk-weaker c.call_fault.result (λ fault. IsCall (plain c.args.context.now) c.args.seen.now.groups c.args.seen.now.functions c.is_behind_equals-wants_value.result c.in-Function.number fault)
+pub returns-then-seen : goal.returns-then-seen
+returns-then-seen c = λ before k a s i. IfOk-weaker c.call_fault.result (λ fault. IsCall (plain c.args.context.now) c.args.seen.now.groups c.args.seen.now.functions c.is_behind_equals-wants_value.result c.in-Function.number fault)
     (λ fault. Judges (plain c.args.context.now) before c.args.sign c.args.seen.now c.args.used.now c.args.settled.now.items fault)
-    (λ fault call. at_call (plain c.args.context.now) before c.args.sign c.args.seen.now c.args.used.now c.args.settled.now.items c.is_behind_equals-wants_value.result c.in-Function.number fault c.in-Function.is c.if-seen-2.true k a s
+    (λ fault call. at_call (plain c.args.context.now) before c.args.sign c.args.seen.now c.args.used.now c.args.settled.now.items c.is_behind_equals-wants_value.result c.in-Function.number fault c.in-Function.is c.if-seen.true k a s
     (c.is_behind_equals-wants_value.ensures before i) call)
     c.call_fault.ensures
 
-pub returns-else-seen-2 : goal.returns-else-seen-2
-returns-else-seen-2 c = λ before k a s i.
+pub returns-else-seen : goal.returns-else-seen
+returns-else-seen c = λ before k a s i.
     let new : Seen = record {
       groups = c.args.seen.now.groups;
       in_main = c.args.seen.now.in_main;
@@ -47,6 +49,6 @@ returns-else-seen-2 c = λ before k a s i.
     } in
     IfOk-weaker c.declare_function.result (λ fault. DeclaresFunction (plain c.args.context.now) c.args.seen.now.groups c.args.seen.now.functions c.is_behind_void-is_void.result c.in-Function.number c.declare_function.new.functions fault)
     (λ fault. Judges (plain c.args.context.now) before c.args.sign new c.args.used.now c.args.settled.now.items fault)
-    (λ fault d. at_prototype (plain c.args.context.now) before c.args.sign c.args.seen.now new c.args.used.now c.args.settled.now.items c.is_behind_void-is_void.result c.in-Function.number fault c.in-Function.is c.if-seen-2.false k a s
+    (λ fault d. at_prototype (plain c.args.context.now) before c.args.sign c.args.seen.now new c.args.used.now c.args.settled.now.items c.is_behind_void-is_void.result c.in-Function.number fault c.in-Function.is c.if-seen.false k a s
     (c.is_behind_void-is_void.ensures before i) d refl refl (record { names = refl; constants = refl; variables = refl; declarations = refl }))
     c.declare_function.ensures

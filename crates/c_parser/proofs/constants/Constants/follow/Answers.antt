@@ -7,11 +7,12 @@ use Rattle.c_parser.proofs.constants.Constants.follow.Goals.{then-is_constant, e
 
 pub returns : goal.returns
 returns c = λ before k h.
-    let is : c.if-is_constant.is_constant ≡ (c.is_constant.result && not c.args.known.now.in_main) = elim c.if-is_constant.branch [
-      | then-is_constant w ↦ is_asked c.is_constant.result c.args.known.now.in_main c.if-is_constant.is_constant w.if-is_constant.true w.is_constant-is
-      | else-is_constant w ↦ is_not_asked c.is_constant.result c.args.known.now.in_main c.if-is_constant.is_constant w.if-is_constant.false w.is_constant-is
+    let used = c.uses_next-is_used in
+    let is : c.if-is_constant.is_constant ≡ (c.is_constant.result && not used.result) = elim c.if-is_constant.branch [
+      | then-is_constant w ↦ is_asked c.is_constant.result c.uses_next-is_used.result c.if-is_constant.is_constant w.if-is_constant.true w.is_constant-is
+      | else-is_constant w ↦ is_not_asked c.is_constant.result c.uses_next-is_used.result c.if-is_constant.is_constant w.if-is_constant.false w.is_constant-is
     ] in
     held_more before c.args.item c.args.self.now
     (record { track = c.follow.new.self; names = c.declare_constant.new.names })
-    c.args.known.now c.is_constant.result k h (c.follow.ensures before h.track) (c.is_constant.ensures before h.track)
+    c.is_constant.result used.result h (c.follow.ensures before h.track) (c.is_constant.ensures before h.track) (used.ensures before k.main h.track)
     (c.in_ok-declare_constant.ensures ∙ ap (λ (b : Bool). with_constant c.args.self.now.names.items b c.args.item.sign) is)

@@ -1,0 +1,166 @@
+//! Variables that `main` declares.
+
+use std::test::Fail;
+use test_runs::comparing::{compares, two_files};
+
+const MODEL: &[u8] = b"{\"features\":[{\"name\":\"A\"}]}\n";
+
+/// A declaration with an initialiser is an assignment, and one without reads an input; a list is read one by one.
+#[test]
+fn declarations_are_statements(rt: HostRuntime) -> Result<(), Fail> {
+    let rows = [
+        (
+            "run m f --inputs=5,9",
+            "int main(void){\nint a=2,b;\n{\nint c=a+b;\na=c;\n}\nsigned int d = input();\na+=d;\n}\n",
+            "ended a=16 b=5 c=7 d=9\n",
+        ),
+        // behind the variables before `main`, and before the constants
+        (
+            "run m f --inputs=9",
+            "#define K 1\nint a=2;\nint main(void){\nint b=3;\na=b+K;\n}\n",
+            "ended a=4 b=3 K=1\n",
+        ),
+        // each declarator is a step of its own, at its name
+        (
+            "run m f --steps=1",
+            "int f(void);\nint main(void)\n{\nint a = 1, b = f();\n}\n",
+            "at 4:12 a=1 b=0\n",
+        ),
+        // an initialiser is entered again with its block
+        (
+            "run m f",
+            "int main(void)\n{\nint i = 0, s = 0;\nwhile (i < 3) {\nint x = i;\nx += 1;\ns += x;\ni++;\n}\n}\n",
+            "ended i=3 s=6 x=3\n",
+        ),
+        (
+            "invariants m f",
+            "int main(void)\n{\nint a = 1, b;\n}\n",
+            "3:5: if 1: a in [0,0], b in [0,0]\n3:12: if 1: a in [1,1], b in [0,0]\n4:1: if 1: a in [1,1], b in [-2147483648,2147483647]\nalarms: 0\n",
+        ),
+        // without an initialiser a value is any
+        (
+            "analyse m f",
+            "int main(void) {\nint x;\nassert(x != 7);\n}\n",
+            "3:1: assertion if 1; example A=0\nalarms: 1\n",
+        ),
+        // in groups
+        (
+            "analyse m f",
+            "int main(void) {\n#ifdef A\nint a = 1;\n#else\nconst int a = 2;\n#endif\nassert(a == 1);\n}\n",
+            "7:1: assertion if !A; example A=0\nalarms: 1\n",
+        ),
+        (
+            "project m f A",
+            "int main(void) {\n#ifdef A\nint a = 1, b;\n#else\nint a = 2;\n#endif\n}\n",
+            "int main(void) {\n\nint a = 1, b;\n\n\n\n}\n",
+        ),
+    ];
+    for (line, file, output) in rows {
+        let contents = two_files(MODEL, file.as_bytes());
+        let status = if output.ends_with("alarms: 1\n") {
+            1
+        } else {
+            0
+        };
+        compares(
+            rt.alloc(),
+            line,
+            &contents,
+            (status, output.as_bytes(), b""),
+        )?;
+    }
+    Ok(())
+}
+
+/// F12 of forms, F13 of scope, F14 of a second declaration, F17 of the 17th variable, F23 of constants.
+#[test]
+fn declarations_are_refused(rt: HostRuntime) -> Result<(), Fail> {
+    let rows = [
+        (
+            "analyse m f",
+            "int main(void) {\n#ifdef A\nint a=1;\n#endif\na=2;\n}\n",
+            "file: F13 at 5:1; example A=0\n",
+        ),
+        (
+            "plain f",
+            "int main(void) {\nint a = a + 1;\n}\n",
+            "file: F13 at 2:9\n",
+        ),
+        (
+            "analyse m f",
+            "int main(void) {\nint a = a + 1;\n}\n",
+            "file: F13 at 2:9; example A=0\n",
+        ),
+        (
+            "plain f",
+            "int main(void) {\na = 1;\nint a;\n}\n",
+            "file: F13 at 2:1\n",
+        ),
+        (
+            "plain f",
+            "int x;\nint main(void) {\nif (x) { int x; }\n}\n",
+            "file: F14 at 3:14\n",
+        ),
+        (
+            "analyse m f",
+            "int main(void) {\n#ifdef A\nint a;\n#endif\nint a;\n}\n",
+            "file: F14 at 5:5; example A=1\n",
+        ),
+        (
+            "analyse m f",
+            "int main(void) {\nint A = 1;\n}\n",
+            "file: F15 at 2:5\n",
+        ),
+        (
+            "plain f",
+            "int main(void) {\nconst int a = 2;\na = 3;\n}\n",
+            "file: F23 at 3:1\n",
+        ),
+        (
+            "analyse m f",
+            "int main(void) {\nint const a = 2, b = a;\n#ifdef A\n++b;\n#endif\n}\n",
+            "file: F23 at 4:3\n",
+        ),
+        // a declaration is no statement of its own, a constant has an initialiser, a declarator a name
+        (
+            "plain f",
+            "int x;\nint main(void) {\nwhile (x < 3)\nint y = 1;\n}\n",
+            "file: F12 at 4:1\n",
+        ),
+        (
+            "plain f",
+            "int main(void) {\nconst int a;\n}\n",
+            "file: F12 at 2:12\n",
+        ),
+        (
+            "plain f",
+            "int main(void) {\nint a = 1, ;\n}\n",
+            "file: F12 at 2:12\n",
+        ),
+        (
+            "plain f",
+            "int main(void) {\nint a = 1 b;\n}\n",
+            "file: F12 at 2:11\n",
+        ),
+        (
+            "plain f",
+            "int main(void) {\nstatic int s;\n}\n",
+            "file: F12 at 2:1\n",
+        ),
+        (
+            "plain f",
+            "int x;\nint main(void) {\nx = 1, x = 2;\n}\n",
+            "file: F12 at 3:6\n",
+        ),
+        (
+            "plain f",
+            "int main(void){\nint v0;\nint v1;\nint v2;\nint v3;\nint v4;\nint v5;\nint v6;\nint v7;\nint v8;\nint v9;\nint v10;\nint v11;\nint v12;\nint v13;\nint v14;\nint v15;\nint v16;\n}\n",
+            "file: F17 at 18:5\n",
+        ),
+    ];
+    for (line, file, told) in rows {
+        let contents = two_files(MODEL, file.as_bytes());
+        compares(rt.alloc(), line, &contents, (4, b"", told.as_bytes()))?;
+    }
+    Ok(())
+}

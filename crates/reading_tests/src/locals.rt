@@ -1,0 +1,98 @@
+//! Variables that `main` declares.
+#![tactic(auto)]
+
+use crate::family_reading;
+use crate::family_reading::MIXED;
+use crate::files::{accepts, refuses, repeated};
+use c_parser::read_plain;
+use fam_outer::Includes;
+use std::test::Fail;
+
+/// A declarator is a statement at its name, and the names stand behind those before `main`.
+#[test]
+fn declarations_are_statements(rt: HostRuntime) -> Result<(), Fail> {
+    let cases = [
+        (
+            "int main(void) { int x = 1, y; }",
+            "Program { names: Names { list: [Text { bytes: [120] }, Text { bytes: [121] }] }, start: Values { list: [0, 0] }, declared: Declarations { list: [] }, body: [Assign { place: Place { line: 1, column: 22 }, target: 0, value: Number(1) }, Input { place: Place { line: 1, column: 29 }, target: 1 }], end: Place { line: 1, column: 32 } }",
+        ),
+        (
+            "const int k = 2;\nint g;\nint main(void) { signed int const c = g, d = input(); { int32_t b; } }",
+            "Program { names: Names { list: [Text { bytes: [103] }, Text { bytes: [98] }, Text { bytes: [107] }, Text { bytes: [99] }, Text { bytes: [100] }] }, start: Values { list: [0, 0, 2, 0, 0] }, declared: Declarations { list: [] }, body: [Assign { place: Place { line: 3, column: 35 }, target: 3, value: Var(0) }, Input { place: Place { line: 3, column: 42 }, target: 4 }, Block { place: Place { line: 3, column: 55 }, body: [Input { place: Place { line: 3, column: 65 }, target: 1 }] }], end: Place { line: 3, column: 70 } }",
+        ),
+    ];
+    for (file, wanted) in cases {
+        accepts(&rt, rt.alloc(), file, wanted)?;
+    }
+    Ok(())
+}
+
+#[test]
+fn other_declarations_are_refused(rt: HostRuntime) -> Result<(), Fail> {
+    let cases: [(&[u8], &str, u32, u32); 14] = [
+        (b"int main(void) { int x = ; }", "Syntax", 1, 26),
+        (b"int main(void) { int x, = 1; }", "Syntax", 1, 25),
+        (b"int main(void) { int x y; }", "Syntax", 1, 24),
+        (b"int main(void) { int x = 1 = 2; }", "Syntax", 1, 28),
+        (b"int main(void) { int x = input() + 1; }", "Syntax", 1, 34),
+        (b"int main(void) { int x += 1; }", "Syntax", 1, 24),
+        (b"int main(void) { const x = 1; }", "Syntax", 1, 24),
+        (
+            b"int main(void) { const int const x = 1; }",
+            "Syntax",
+            1,
+            28,
+        ),
+        (b"int main(void) { static int x; }", "Syntax", 1, 18),
+        (b"int main(void) { enum { A }; }", "Syntax", 1, 18),
+        (b"int main(void) { if (1) int x; }", "Syntax", 1, 25),
+        (
+            b"int main(void) { if (1) ; else const int x = 1; }",
+            "Syntax",
+            1,
+            32,
+        ),
+        (
+            b"int main(void) { int x = 1, y = y; }",
+            "Undeclared(None)",
+            1,
+            33,
+        ),
+        (
+            b"int main(void) { { int x; } int x; }",
+            "Twice(None)",
+            1,
+            33,
+        ),
+    ];
+    for (file, wanted, line, column) in cases {
+        refuses(&rt, rt.alloc(), file, wanted, line, column)?;
+    }
+    Ok(())
+}
+
+#[test]
+fn an_initialiser_has_64_operators(rt: HostRuntime) -> Result<(), Fail> {
+    let alloc = rt.alloc();
+    let front = "int main(void) {\nint x = 1";
+    let file = repeated(alloc, front, " + 1", 64, ", y = 1 + 1;\n}\n")?;
+    assert!(rt; read_plain(alloc, Includes::Assert, file.as_bytes()).is_ok());
+    let file = repeated(alloc, front, " + 1", 65, ";\n}\n")?;
+    refuses(&rt, alloc, file.as_bytes(), "TooDeep", 2, 267)
+}
+
+#[test]
+fn groups_stand_around_them(rt: HostRuntime) -> Result<(), Fail> {
+    let file = b"int main(void) {\n#if A\nint x = 1;\n#else\nconst int x = 2;\n#endif\n}";
+    match family_reading::read(rt.alloc(), MIXED, file)? {
+        Ok(family) => {
+            let shown = format!(in rt.alloc(); "{:?}", family.code)?;
+            assert_eq!(rt;
+                shown.as_str(),
+                "Program { names: Names { list: [Text { bytes: [120] }] }, start: Values { list: [0] }, declared: Declarations { list: [] }, body: [Cond { number: 0, yes: [Assign { place: Place { line: 3, column: 5 }, target: 0, value: Number(1) }], no: [Assign { place: Place { line: 5, column: 11 }, target: 0, value: Number(2) }] }], end: Place { line: 7, column: 1 } }"
+            );
+        }
+        Err(_) => panic!(rt; "refused"),
+    }
+    Ok(())
+}
