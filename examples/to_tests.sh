@@ -47,20 +47,35 @@ of_families() {
     done
 }
 
+# a constant NAME with these files, each under its name
+contents() {
+    local name=$1 file
+    shift
+    echo "pub(crate) const $name: [(&str, &str); $#] = ["
+    for file in "$@"; do
+        pair "$(basename "$file")" "$file"
+    done
+    echo '];'
+}
+
 cd "$here"
-files=(*.c refused/*.c {,refused/}families/*.{c,json,certificate})
 # the tests know each file by its name alone
-twice=$(basename -a "${files[@]}" {,refused/}{,families/}*.expected families/*.html | sort | uniq -d)
+twice=$(basename -a {,refused/}*.c {,refused/}families/*.{c,json,certificate} {,refused/}{,families/}*.expected families/*.html | sort | uniq -d)
 [ -z "$twice" ] || { echo "to_tests.sh: in two folders: $twice" >&2; exit 1; }
 {
     echo '//! The example files, and the words of commands on them with what is expected, as `examples/to_tests.sh` writes them.'
     echo
-    echo '/// Each file under its path.'
-    echo "pub(crate) const FILES: [(&str, &str); ${#files[@]}] = ["
-    for file in "${files[@]}"; do
-        pair "$(basename "$file")" "$file"
-    done
-    echo '];'
+    echo '/// Programs without variants.'
+    contents PROGRAM_FILES *.c
+    echo
+    echo '/// Those that are refused.'
+    contents REFUSED_FILES refused/*.c
+    echo
+    echo '/// Families, with their models and certificates.'
+    contents FAMILY_FILES families/*.{c,json,certificate}
+    echo
+    echo '/// Those that are refused.'
+    contents REFUSED_FAMILY_FILES refused/families/*.{c,json,certificate}
     echo
     echo '/// The words of each command on a program without variants, with its output and then its line on the error stream.'
     commands PROGRAMS *.expected refused/*.expected

@@ -9,7 +9,7 @@ from collections.abc import Iterator
 from dataclasses import dataclass
 from pathlib import Path
 
-from .outcomes import code_of
+from .outcomes import code_of, has_any_value
 
 NO_FEATURES = '{"features": []}\n'
 
@@ -69,12 +69,13 @@ class Family:
 
 
 def examples(top: Path) -> Iterator[Family]:
-    """The examples beside the program: a file without a model has no features."""
+    """The examples beside the program, but those with variables of any value: a file without a model has no features."""
     for folder in ("examples/families", "examples/programs", "examples"):
         for path in sorted((top / folder).glob("*.c")):
             model = path.with_suffix(".json")
             text = model.read_text() if model.exists() else NO_FEATURES
-            yield Family(str(path.relative_to(top)), text, path.read_text(), is_made=False)
+            if not has_any_value(path.read_text()):
+                yield Family(str(path.relative_to(top)), text, path.read_text(), is_made=False)
 
 
 # What tells most of a run: small numbers, and the ends of int.

@@ -109,10 +109,18 @@ MAIN = re.compile(rf"{TYPE}\s+main\s*\(")
 IN_MAIN = re.compile(rf"\b{TYPE}(?:\s+const)?\s+(\w[^;]*);")
 
 
+def declarators(text: str) -> list[str]:
+    """The declarators of `main`. A comma stands there in declarations alone."""
+    return [it for declaration in IN_MAIN.findall(MAIN.split(code_of(text))[-1]) for it in declaration.split(",")]
+
+
 def declared_in_main(text: str) -> set[str]:
-    """The variables that `main` declares. A comma stands there in declarations alone."""
-    body = MAIN.split(code_of(text))[-1]
-    return {it.split("=")[0].strip() for declaration in IN_MAIN.findall(body) for it in declaration.split(",")}
+    return {it.split("=")[0].strip() for it in declarators(text)}
+
+
+def has_any_value(text: str) -> bool:
+    """Whether `main` declares a variable without an initialiser: its value may be any, and clang need not take it from the inputs."""
+    return any("=" not in it for it in declarators(text))
 
 
 def is_same(text: str, famlint: Outcome, clang: Outcome) -> bool:

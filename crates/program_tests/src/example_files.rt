@@ -1,7 +1,7 @@
 //! The example files, and the words of commands on them with what is expected, as `examples/to_tests.sh` writes them.
 
-/// Each file under its path.
-pub(crate) const FILES: [(&str, &str); 87] = [
+/// Programs without variants.
+pub(crate) const PROGRAM_FILES: [(&str, &str); 14] = [
     (
         "assertion.c",
         "int level = 900;\nint limit = 1000;\nint main(void)\n{\n    level = level - limit;\n    assert(level > 0 - 200);\n    assert(level >= 0);\n    level = 0;\n}\n",
@@ -58,6 +58,10 @@ pub(crate) const FILES: [(&str, &str); 87] = [
         "valve.c",
         "#include <assert.h>\n\n/* A valve opens as far as a level stands above 80, and is shut above 20. Below 20 nothing is said of it. */\nint main(void)\n{\n    const int high = 80;\n    int level = input();\n    if (level < 0 || level > 100)\n        level = 0;\n\n    int opening;\n    if (level > high)\n        opening = level - high;\n    else if (level > 20)\n        opening = 0;\n    assert(opening >= 0 && opening <= 20);\n    return 0;\n}\n",
     ),
+];
+
+/// Those that are refused.
+pub(crate) const REFUSED_FILES: [(&str, &str); 17] = [
     (
         "F1.c",
         "int x;\nint main(void)\n{\n    x = 1; /* set it\n}\n",
@@ -126,6 +130,10 @@ pub(crate) const FILES: [(&str, &str); 87] = [
         "F4.c",
         "#define LIMIT (99 + 1)\nint level;\nint main(void)\n{\n    assert(level < LIMIT);\n}\n",
     ),
+];
+
+/// Families, with their models and certificates.
+pub(crate) const FAMILY_FILES: [(&str, &str); 12] = [
     (
         "filter.c",
         "/* The weight of a filter is a constant of the build, and its number of taps is a feature. */\n#ifdef FAST\n#define WEIGHT 2\n#else\n#define WEIGHT (3)\n#endif\n#define LEAST -100\nint level;\nint sum;\n\nint main(void)\n{\n    level = input();\n    if (level < LEAST || level > 100)\n        level = 0;\n    sum = level * WEIGHT / TAPS;\n    assert(sum < 250);\n}\n",
@@ -171,6 +179,10 @@ pub(crate) const FILES: [(&str, &str); 87] = [
         "ring_narrow.certificate",
         "famlint certificate 1 stop\nloop 13:5 if SLOTS <= 7: tick in [0,0], head in [0,0], size in [0,0]\nloop 13:5 if SLOTS >= 8: tick in [0,100000], head in [0,7], size in [8,8]\nalarm 15:9: zero-divisor if SLOTS <= 7\n",
     ),
+];
+
+/// Those that are refused.
+pub(crate) const REFUSED_FAMILY_FILES: [(&str, &str); 44] = [
     (
         "F13_family.c",
         "#ifdef FAST\nint limit = 4;\n#endif\nint count;\nint main(void)\n{\n    while (count < limit)\n        count++;\n}\n",

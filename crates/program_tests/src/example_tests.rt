@@ -1,20 +1,63 @@
 //! The example files: what is written beside each is what its command writes.
 
-use crate::example_files::{FAMILIES, FILES, PROGRAMS, REFUSED_FAMILIES, VARIANTS};
+use crate::example_files::{
+    FAMILIES, FAMILY_FILES, PROGRAM_FILES, PROGRAMS, REFUSED_FAMILIES, REFUSED_FAMILY_FILES,
+    REFUSED_FILES, VARIANTS,
+};
 use fam_outer::{CallNumbers, Entries, MemoryFiles, MemorySink, NoMemory, Text};
 use famlint_core::famlint;
 use std::alloc::Global;
 use std::test::Fail;
 use test_runs::running::words_of;
 
+/// Files with their paths.
+type Files = Vec<(Text, Text)>;
+
+/// Adds a file.
+fn add_file(alloc: Global, files: &mut Files, path: &str, content: &str) -> Result<(), NoMemory> {
+    let path = Text::from_bytes(alloc, path.as_bytes())?;
+    let content = Text::from_bytes(alloc, content.as_bytes())?;
+    files.push((path, content))?;
+    Ok(())
+}
+
+// One function for each list, since a check of one with all of them takes too much memory.
+
+fn add_programs(alloc: Global, files: &mut Files) -> Result<(), NoMemory> {
+    for (path, content) in PROGRAM_FILES {
+        add_file(alloc, files, path, content)?;
+    }
+    Ok(())
+}
+
+fn add_refused(alloc: Global, files: &mut Files) -> Result<(), NoMemory> {
+    for (path, content) in REFUSED_FILES {
+        add_file(alloc, files, path, content)?;
+    }
+    Ok(())
+}
+
+fn add_families(alloc: Global, files: &mut Files) -> Result<(), NoMemory> {
+    for (path, content) in FAMILY_FILES {
+        add_file(alloc, files, path, content)?;
+    }
+    Ok(())
+}
+
+fn add_refused_families(alloc: Global, files: &mut Files) -> Result<(), NoMemory> {
+    for (path, content) in REFUSED_FAMILY_FILES {
+        add_file(alloc, files, path, content)?;
+    }
+    Ok(())
+}
+
 /// The example files in memory.
 fn example_files(alloc: Global) -> Result<MemoryFiles, NoMemory> {
     let mut entries = Vec::new(alloc);
-    for (path, content) in FILES {
-        let path = Text::from_bytes(alloc, path.as_bytes())?;
-        let content = Text::from_bytes(alloc, content.as_bytes())?;
-        entries.push((path, content))?;
-    }
+    add_programs(alloc, &mut entries)?;
+    add_refused(alloc, &mut entries)?;
+    add_families(alloc, &mut entries)?;
+    add_refused_families(alloc, &mut entries)?;
     Ok(MemoryFiles {
         entries: Entries::from_vec(entries),
         failing: CallNumbers::from_vec(Vec::new(alloc)),
