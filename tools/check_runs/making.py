@@ -224,6 +224,13 @@ class Maker:
             return f"assert({of.likely(name)});"
         return rng.choice(("note();", "(void)note();")) if "note" in self.functions else ";"
 
+    def block(self, scope: list[str], depth: int, *first: str) -> list[str]:
+        """Statements in braces. What they declare is out of scope behind them, so that a later block may declare it too."""
+        free = list(self.locals)
+        lines = ["{", *first, *self.statements(scope, depth), "}"]
+        self.locals = free
+        return lines
+
     def loop(self, scope: list[str], depth: int) -> list[str]:
         """A loop, mostly one that a counter of its own ends."""
         rng = self.rng
@@ -236,7 +243,7 @@ class Maker:
         # (a feature of great values would leave out most runs for their length)
         great = [it["name"] for it in self.numbers if it["min"] > 100]
         bound = rng.choice((*(it for it in self.constants if it not in great), *[str(rng.randint(1, 12))] * 4))
-        lines = [f"{counter} = 0;", f"while ({counter} < {bound}) {{", f"{counter}++;", *self.statements(scope, depth - 1), "}"]
+        lines = [f"{counter} = 0;", f"while ({counter} < {bound})", *self.block(scope, depth - 1, f"{counter}++;")]
         self.counters.append(counter)
         return lines
 
@@ -247,7 +254,7 @@ class Maker:
             return self.choice(scope, depth - 1)
         if rng.random() < 0.4:
             return [f"    {self.simple(scope)}"]
-        return ["{", *self.statements(scope, depth - 1), "}"]
+        return self.block(scope, depth - 1)
 
     def choice(self, scope: list[str], depth: int) -> list[str]:
         lines = [f"if ({Expressions(self.rng, scope + self.counters + self.constants).test(2)})", *self.body(scope, depth)]
@@ -279,7 +286,7 @@ class Maker:
             elif kind == "line":
                 lines.append(f"{self.simple(scope)} {self.simple(scope)}")
             elif kind == "block":
-                lines += ["{", *self.statements(scope, depth - 1), "}"]
+                lines += self.block(scope, depth - 1)
             else:
                 make = {"choice": self.choice, "loop": self.loop, "group": self.group}[kind]
                 lines += make(scope, depth)

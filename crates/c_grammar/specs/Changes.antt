@@ -1,5 +1,5 @@
 -- Which names a list of items changes (ISO/IEC 9899:2011, 6.5.2.4, 6.5.3.1 and 6.5.16), and what is known of names behind items.
-use Rattle.std.specs.Prelude.{◌≡◌, ℕ, Bool, true, false, List, [], ◌∷◌, Option, Some, None}
+use Rattle.std.specs.Prelude.{◌≡◌, ℕ, Bool, true, false, List, Option, Some, None}
 use Rattle.fam_outer.specs.declared.faults.Place.{Place}
 use Rattle.c_grammar.specs.declared.constants.NameKind.TheVariants as kinds
 use Rattle.c_grammar.specs.declared.constants.Track.{Track}

@@ -5,7 +5,7 @@ use Rattle.c_tree.specs.declared.lists.Declared.{Declared}
 use Rattle.c_tree.specs.Tree.{Code}
 use Rattle.fam_outer.specs.declared.faults.Place.{Place}
 use Rattle.c_grammar.specs.declared.items.Item.{Item}
-use Rattle.c_grammar.specs.Grammar.{Qualifier, Unqualified, Constant, Counted, LocalDeclarator, uninitialised, initialised, from_call, Shape, Writes, none, more, choice, local, last_local, next_local, ends, otherwise, elif, assign, input, call, void_call, update, count, prefix_count, assert, skip, block, while, if_then, if_else, with_true, with_false, declared, Body, body, Main, main, File, Forms, file}
+use Rattle.c_grammar.specs.Grammar.{Qualifier, Unqualified, Constant, Counted, LocalDeclarator, uninitialised, initialised, from_call, Shape, Writes, more, choice, local, last_local, next_local, otherwise, elif, block, while, if_then, if_else, with_true, with_false, declared, Body, body, Main, main, File, Forms, file}
 
 abbrev pub local_name : {kind : Qualifier} {ts : List Item} {c : Code} → LocalDeclarator kind ts c → ℕ
 local_name (uninitialised p x) = x
@@ -37,18 +37,23 @@ of_kind Unqualified ds = []
 of_kind Constant ds = ds
 of_kind (Counted last) ds = ds
 
--- those of them that are constants
-abbrev pub constant_locals_in : {shape : Shape} {ts : List Item} {c : Code} → List Guard → Writes shape ts c → List Declared
-constant_locals_in gs (more s l) = constant_locals_in gs s ++ constant_locals_in gs l
-constant_locals_in gs (choice p n s t l) = constant_locals_in (with_true gs n) s ++ (constant_locals_in (with_false gs n) t ++ constant_locals_in gs l)
-constant_locals_in gs (local {kind = kind} q d l) = of_kind kind (locals_in gs d) ++ constant_locals_in gs l
-constant_locals_in gs (otherwise p q s) = constant_locals_in gs s
-constant_locals_in gs (elif p n s t) = constant_locals_in (with_true gs n) s ++ constant_locals_in (with_false gs n) t
-constant_locals_in gs (block p q s) = constant_locals_in gs s
-constant_locals_in gs (while p q r e s) = constant_locals_in gs s
-constant_locals_in gs (if_then p q r e s) = constant_locals_in gs s
-constant_locals_in gs (if_else p q r z e s t) = constant_locals_in gs s ++ constant_locals_in gs t
-constant_locals_in gs _ = []
+-- those of them that are in scope behind the statements: their block is not left
+abbrev pub scope_in : {shape : Shape} {ts : List Item} {c : Code} → List Guard → Writes shape ts c → List Declared
+scope_in gs (more s l) = scope_in gs l
+scope_in gs (choice p n s t l) = scope_in (with_true gs n) s ++ (scope_in (with_false gs n) t ++ scope_in gs l)
+scope_in gs (local q d l) = locals_in gs d ++ scope_in gs l
+scope_in gs (otherwise p q s) = scope_in gs s
+scope_in gs (elif p n s t) = scope_in (with_true gs n) s ++ scope_in (with_false gs n) t
+scope_in gs _ = []
+
+-- and the constants among these
+abbrev pub constant_scope_in : {shape : Shape} {ts : List Item} {c : Code} → List Guard → Writes shape ts c → List Declared
+constant_scope_in gs (more s l) = constant_scope_in gs l
+constant_scope_in gs (choice p n s t l) = constant_scope_in (with_true gs n) s ++ (constant_scope_in (with_false gs n) t ++ constant_scope_in gs l)
+constant_scope_in gs (local {kind = kind} q d l) = of_kind kind (locals_in gs d) ++ constant_scope_in gs l
+constant_scope_in gs (otherwise p q s) = constant_scope_in gs s
+constant_scope_in gs (elif p n s t) = constant_scope_in (with_true gs n) s ++ constant_scope_in (with_false gs n) t
+constant_scope_in gs _ = []
 
 abbrev pub locals_of_body : {us : List Item} {c : Code} {p : Place} → Body us c p → List Declared
 locals_of_body (body p s r e) = locals_in [] s
@@ -59,16 +64,6 @@ locals_of_main (main q r s t u y o b) = locals_of_body b
 -- the variables that `main` declares
 abbrev pub locals_of : {items : List Item} {f : File} → Forms items f → List Declared
 locals_of (file d m) = locals_of_main m
-
-abbrev pub constant_locals_of_body : {us : List Item} {c : Code} {p : Place} → Body us c p → List Declared
-constant_locals_of_body (body p s r e) = constant_locals_in [] s
-
-abbrev pub constant_locals_of_main : {us : List Item} {c : Code} {p : Place} → Main us c p → List Declared
-constant_locals_of_main (main q r s t u y o b) = constant_locals_of_body b
-
--- the constants that `main` declares
-abbrev pub constant_locals_of : {items : List Item} {f : File} → Forms items f → List Declared
-constant_locals_of (file d m) = constant_locals_of_main m
 
 -- the variables and constants that a file declares by the grammar, in the order of the text
 abbrev pub declared_in : {items : List Item} {f : File} → Forms items f → List Declared

@@ -5,6 +5,7 @@ ghost use Rattle.std.specs.Prelude.{◌≡◌, List, [], ◌∷◌, ◌++◌};
 ghost use Rattle.c_grammar.specs.declared.constants.NameKind.TheVariants as kinds;
 ghost use Rattle.c_grammar.specs.declared.items.Item as items;
 ghost use Rattle.c_grammar.specs.Changes as changes;
+ghost use Rattle.c_grammar.specs.Classes.{class_of};
 ghost use Rattle.c_grammar.specs.Constants as specs;
 ghost use Rattle.c_grammar.specs.Functions as functions;
 ghost use Rattle.c_grammar.specs.Locals as locals;
@@ -19,6 +20,30 @@ enum NameKind {
     Variable,
     Constant,
     Defined,
+}
+
+/// Of which class a name is by its first declaration: a variable's or a constant's that stands before `main`, or that of a
+/// local, which `main` declares, with `const` or without.
+#[derive(Clone, Copy, Debug, PartialEq, Eq)]
+pub enum NameClass {
+    Variable,
+    Local,
+    Constant,
+}
+
+impl NameClass {
+    /// The class of a declaration in `main` or before it, as a constant or a variable.
+    pub fn of(in_main: bool, is_constant: bool) -> NameClass
+        ensures { result ≡ class_of in_main is_constant }
+    {
+        if in_main {
+            NameClass::Local
+        } else if is_constant {
+            NameClass::Constant
+        } else {
+            NameClass::Variable
+        }
+    }
 }
 
 /// Whether such a name is a constant's.

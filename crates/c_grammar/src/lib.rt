@@ -4,6 +4,8 @@
 pub mod constants;
 pub mod items;
 pub mod laws;
+pub mod scoped;
 
-pub use constants::Track;
+pub use constants::{NameClass, Track};
 pub use items::{Item, Sign};
+pub use scoped::Scoped;

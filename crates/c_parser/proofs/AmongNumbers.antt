@@ -1,10 +1,13 @@
 -- Lists of numbers, each of which stands among them once, and so many numbers that each stand among a list.
-use Rattle.std.proofs.Common.{◌≡◌, ◌⊎◌, inl, inr, ℕ, zero, suc, ◌+◌, ◌≤◌, ◌<◌, nat_eq, Bool, true, false, not, ◌||◌, cond, List, [], ◌∷◌, ◌++◌, length, refl, sym, ap, subst, ◌∙◌, arith}
+use Rattle.std.proofs.Common.{◌≡◌, ◌⊎◌, inl, inr, ℕ, zero, suc, ◌+◌, ◌≤◌, ◌<◌, nat_eq, Bool, true, false, ◌||◌, cond, List, [], ◌∷◌, ◌++◌, length, refl, sym, ap, subst, ◌∙◌, arith}
 use Rattle.std.specs.Prelude.{if◌then◌else◌}
 use Rattle.std.proofs.lemmas.Bool.{or_right}
 use Rattle.std.proofs.lemmas.Bool.Decides.{nat_tests}
 use Rattle.std.specs.List.{filter}
 use Rattle.std.proofs.lemmas.List.Folds.{list_any-append}
+use Rattle.c_grammar.specs.declared.constants.NameClass.{NameClass}
+use Rattle.c_grammar.specs.declared.constants.NameClass.TheVariants as classes
+use Rattle.c_grammar.specs.Classes.{is_class}
 use Rattle.family_names.specs.Names.{is_among, with_number, each_once}
 
 -- ---- one of two
@@ -88,13 +91,20 @@ at_least (suc n) ys h =
     let there : is_among n ys ≡ true = h n (omega arith) in
     omega (arith, one_less n ys there, at_least n (without n ys) (λ x lt. others_stay n x ys (below_differs x n lt) (h x (omega (arith, lt)))))
 
--- each name is a variable's or a constant's
-pub both_kinds : (p : ℕ → Bool) (xs : List ℕ) → length (filter p xs) + length (filter (λ x. not (p x)) xs) ≡ length xs
-both_kinds p [] = omega arith
-both_kinds p (x ∷ xs) = elim (p x) as (λ b. length (cond b (x ∷ filter p xs) (filter p xs)) + length (cond (not b) (x ∷ filter (λ y. not (p y)) xs) (filter (λ y. not (p y)) xs)) ≡ suc (length xs)) [
-  | true ↦ omega (arith, both_kinds p xs)
-  | false ↦ omega (arith, both_kinds p xs)
-]
+-- each name is of one class
+class_more : (class : NameClass) (x : ℕ) (variables locals constants xs : List ℕ) → length variables + (length locals + length constants) ≡ length xs
+    → length (cond (is_class classes.Variable class) (x ∷ variables) variables) + (length (cond (is_class classes.Local class) (x ∷ locals) locals) + length (cond (is_class classes.Constant class) (x ∷ constants) constants)) ≡ suc (length xs)
+class_more classes.Variable x variables locals constants xs h = omega (arith, h)
+class_more classes.Local x variables locals constants xs h = omega (arith, h)
+class_more classes.Constant x variables locals constants xs h = omega (arith, h)
+
+-- the numbers of which this is the class
+abbrev pub of_class : NameClass → (ℕ → NameClass) → List ℕ → List ℕ
+of_class class class_of xs = filter (λ x. is_class class (class_of x)) xs
+
+pub all_classes : (class_of : ℕ → NameClass) (xs : List ℕ) → length (of_class classes.Variable class_of xs) + (length (of_class classes.Local class_of xs) + length (of_class classes.Constant class_of xs)) ≡ length xs
+all_classes class_of [] = omega arith
+all_classes class_of (x ∷ xs) = class_more (class_of x) x (of_class classes.Variable class_of xs) (of_class classes.Local class_of xs) (of_class classes.Constant class_of xs) xs (all_classes class_of xs)
 
 pub among_both : (x : ℕ) (xs ys : List ℕ) (a : Bool) → a ≡ is_among x xs → (a || is_among x ys) ≡ true → is_among x (xs ++ ys) ≡ true
 among_both x xs ys a e h = list_any-append (nat_eq x) xs ys ∙ ap (λ (b : Bool). b || is_among x ys) (sym e) ∙ h

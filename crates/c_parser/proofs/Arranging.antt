@@ -8,8 +8,10 @@ use Rattle.std.proofs.lemmas.List.FromFn.{fill_by_all}
 use Rattle.std.proofs.lemmas.List.Folds.{list_any-append}
 use Rattle.c_parser.specs.Items.{Listed, with_name, AreNewBehind, AreDistinct}
 use Rattle.c_parser.specs.Names.{names_at, each_once}
-use Rattle.c_parser.specs.Order.{is_of_kind, variables_of, constants_of, features_of, arranged}
-use Rattle.c_grammar.specs.Kinds.{is_declared_constant}
+use Rattle.c_parser.specs.Order.{is_of_class, variables_of, locals_of, constants_of, features_of, arranged}
+use Rattle.c_grammar.specs.declared.constants.NameClass.{NameClass}
+use Rattle.c_grammar.specs.declared.constants.NameClass.TheVariants as classes
+use Rattle.c_grammar.specs.Classes.{is_class, class_in}
 
 -- ---- how often a name stands in a list
 
@@ -102,38 +104,56 @@ new_behind before [] once = tt
 new_behind before (n ∷ ns) once =
     (new_here n before ns once, new_behind (before ++ n ∷ []) ns (λ w. subst (λ (ms : List (List ℕ)). count w ms ≤ 1) (sym (append_assoc before (n ∷ []) ns)) (once w)))
 
--- ---- the names of both kinds
+-- ---- the names of all classes
 
 counted_if : (w : List ℕ) (names : List (List ℕ)) (x : ℕ) (xs : List ℕ) (p : Bool) →
     count w (names_at names (cond p (x ∷ xs) xs)) ≡ cond p (one_if (bytes_eq w (get_or names x []))) 0 + count w (names_at names xs)
 counted_if w names x xs true = counted_first w (get_or names x []) (names_at names xs)
 counted_if w names x xs false = omega arith
 
--- of a name that is this (b) or not, where a feature has it (f) or has this (g), and that is a constant's (c) or not
-both_kinds : (b g f c : Bool) (v k m : ℕ) → (b ≡ true → g ≡ f) → v + k ≡ cond g 0 m → (cond (not f && not c) (one_if b) 0 + v) + (cond (not f && c) (one_if b) 0 + k) ≡ cond g 0 (one_if b + m)
-both_kinds true true true c v k m same h = omega (arith, h)
-both_kinds true true false c v k m same h = absurd (let e : true ≡ false = same refl in cc)
-both_kinds true false true c v k m same h = absurd (let e : false ≡ true = same refl in cc)
-both_kinds true false false true v k m same h = omega (arith, h)
-both_kinds true false false false v k m same h = omega (arith, h)
-both_kinds false true true c v k m same h = omega (arith, h)
-both_kinds false true false true v k m same h = omega (arith, h)
-both_kinds false true false false v k m same h = omega (arith, h)
-both_kinds false false true c v k m same h = omega (arith, h)
-both_kinds false false false true v k m same h = omega (arith, h)
-both_kinds false false false false v k m same h = omega (arith, h)
+-- one for a name that is this (b) or not, where a feature has it (f) or not, and its class (d) is the one that is asked
+abbrev one_of : NameClass → Bool → Bool → NameClass → ℕ
+one_of class b f d = cond (not f && is_class class d) (one_if b) 0
 
-kinds_counted : (w : List ℕ) (features : List (List ℕ)) (l : Listed) (xs : List ℕ) →
-    count w (names_at l.names (filter (is_of_kind false features l) xs)) + count w (names_at l.names (filter (is_of_kind true features l) xs)) ≡ cond (is_among w features) 0 (count w (names_at l.names xs))
-kinds_counted w features l [] = elim (is_among w features) as (λ g. 0 + 0 ≡ cond g 0 0) [ true ↦ omega arith | false ↦ omega arith ]
-kinds_counted w features l (x ∷ xs) =
+-- of a name that is this (b) or not, where a feature has it (f) or has this (g), and that is of a class
+all_classes : (b g f : Bool) (d : NameClass) (v o k m : ℕ) → (b ≡ true → g ≡ f) → v + (o + k) ≡ cond g 0 m
+    → (one_of classes.Variable b f d + v) + ((one_of classes.Local b f d + o) + (one_of classes.Constant b f d + k)) ≡ cond g 0 (one_if b + m)
+all_classes true true true d v o k m same h = omega (arith, h)
+all_classes true true false d v o k m same h = absurd (let e : true ≡ false = same refl in cc)
+all_classes true false true d v o k m same h = absurd (let e : false ≡ true = same refl in cc)
+all_classes true false false classes.Variable v o k m same h = omega (arith, h)
+all_classes true false false classes.Local v o k m same h = omega (arith, h)
+all_classes true false false classes.Constant v o k m same h = omega (arith, h)
+all_classes false true true d v o k m same h = omega (arith, h)
+all_classes false true false classes.Variable v o k m same h = omega (arith, h)
+all_classes false true false classes.Local v o k m same h = omega (arith, h)
+all_classes false true false classes.Constant v o k m same h = omega (arith, h)
+all_classes false false true d v o k m same h = omega (arith, h)
+all_classes false false false classes.Variable v o k m same h = omega (arith, h)
+all_classes false false false classes.Local v o k m same h = omega (arith, h)
+all_classes false false false classes.Constant v o k m same h = omega (arith, h)
+
+-- how often a name stands among those of a class
+abbrev of_class : NameClass → List ℕ → List (List ℕ) → Listed → List ℕ → ℕ
+of_class class w features l xs = count w (names_at l.names (filter (is_of_class class features l) xs))
+
+class_first : (class : NameClass) (w : List ℕ) (features : List (List ℕ)) (l : Listed) (x : ℕ) (xs : List ℕ) →
+    of_class class w features l (x ∷ xs) ≡ one_of class (bytes_eq w (get_or l.names x [])) (is_among (get_or l.names x []) features) (class_in l.items x) + of_class class w features l xs
+class_first class w features l x xs = counted_if w l.names x (filter (is_of_class class features l) xs) (is_of_class class features l x)
+
+classes_counted : (w : List ℕ) (features : List (List ℕ)) (l : Listed) (xs : List ℕ) →
+    of_class classes.Variable w features l xs + (of_class classes.Local w features l xs + of_class classes.Constant w features l xs) ≡ cond (is_among w features) 0 (count w (names_at l.names xs))
+classes_counted w features l [] = elim (is_among w features) as (λ g. 0 + (0 + 0) ≡ cond g 0 0) [ true ↦ omega arith | false ↦ omega arith ]
+classes_counted w features l (x ∷ xs) =
     let n = get_or l.names x [] in
-    let variables = filter (is_of_kind false features l) xs in
-    let constants = filter (is_of_kind true features l) xs in
-    let step = both_kinds (bytes_eq w n) (is_among w features) (is_among n features) (is_declared_constant l.items x) (count w (names_at l.names variables)) (count w (names_at l.names constants)) (count w (names_at l.names xs))
-    (λ e. ap (λ (v : List ℕ). is_among v features) (same_text w n e)) (kinds_counted w features l xs) in
-    ap (λ (k : ℕ). k + count w (names_at l.names (filter (is_of_kind true features l) (x ∷ xs)))) (counted_if w l.names x variables (is_of_kind false features l x))
-    ∙ ap (λ (k : ℕ). cond (is_of_kind false features l x) (one_if (bytes_eq w n)) 0 + count w (names_at l.names variables) + k) (counted_if w l.names x constants (is_of_kind true features l x))
+    let variables = of_class classes.Variable w features l xs in
+    let locals = of_class classes.Local w features l xs in
+    let constants = of_class classes.Constant w features l xs in
+    let step = all_classes (bytes_eq w n) (is_among w features) (is_among n features) (class_in l.items x) variables locals constants (count w (names_at l.names xs))
+    (λ e. ap (λ (v : List ℕ). is_among v features) (same_text w n e)) (classes_counted w features l xs) in
+    ap (λ (k : ℕ). k + (of_class classes.Local w features l (x ∷ xs) + of_class classes.Constant w features l (x ∷ xs))) (class_first classes.Variable w features l x xs)
+    ∙ ap (λ (k : ℕ). (one_of classes.Variable (bytes_eq w n) (is_among n features) (class_in l.items x) + variables) + (k + of_class classes.Constant w features l (x ∷ xs))) (class_first classes.Local w features l x xs)
+    ∙ ap (λ (k : ℕ). (one_of classes.Variable (bytes_eq w n) (is_among n features) (class_in l.items x) + variables) + ((one_of classes.Local (bytes_eq w n) (is_among n features) (class_in l.items x) + locals) + k)) (class_first classes.Constant w features l x xs)
     ∙ step
     ∙ ap (λ (k : ℕ). cond (is_among w features) 0 k) (sym (counted_first w n (names_at l.names xs)))
 
@@ -175,7 +195,7 @@ with_among w n seen = elim (is_among n seen) as (λ b. is_among n seen ≡ b →
   | false ↦ λ e. list_any-append (bytes_eq w) seen (n ∷ []) ∙ ap (λ (b : Bool). is_among w seen || b) (or_false (bytes_eq w n))
 ] refl
 
-each_among : (w : List ℕ) (seen ns : List (List ℕ)) → is_among w (each_once seen ns) ≡ (is_among w seen || is_among w ns)
+pub each_among : (w : List ℕ) (seen ns : List (List ℕ)) → is_among w (each_once seen ns) ≡ (is_among w seen || is_among w ns)
 each_among w seen [] = sym (or_false (is_among w seen))
 each_among w seen (n ∷ ns) =
     each_among w (with_name seen n) ns ∙ ap (λ (b : Bool). b || is_among w ns) (with_among w n seen) ∙ or_assoc (is_among w seen) (bytes_eq w n) (is_among w ns)
@@ -217,11 +237,13 @@ all_counted false n k h = omega arith
 pub arranged_counted : (features : List (List ℕ)) (l : Listed) → AreDistinct l.names → (w : List ℕ) → count w (arranged features l) ≡ count w l.names
 arranged_counted features l distinct w =
     let variables = variables_of features l in
+    let locals = locals_of features l in
     let constants = constants_of features l in
-    counted_both w (names_at l.names (variables_of features l ++ constants_of features l)) (features_of features l)
+    counted_both w (names_at l.names (variables_of features l ++ (locals_of features l ++ constants_of features l))) (features_of features l)
     ∙ ap (λ (k : ℕ). k + count w (features_of features l))
-    (ap (count w) (at_both l.names variables constants) ∙ counted_both w (names_at l.names variables) (names_at l.names constants)
-    ∙ kinds_counted w features l (range_with_len 0 (length l.names)) ∙ ap (λ (ns : List (List ℕ)). cond (is_among w features) 0 (count w ns)) (at_all l.names))
+    (ap (count w) (at_both l.names variables (locals ++ constants)) ∙ counted_both w (names_at l.names variables) (names_at l.names (locals ++ constants))
+    ∙ ap (λ (k : ℕ). count w (names_at l.names variables) + k) (ap (count w) (at_both l.names locals constants) ∙ counted_both w (names_at l.names locals) (names_at l.names constants))
+    ∙ classes_counted w features l (range_with_len 0 (length l.names)) ∙ ap (λ (ns : List (List ℕ)). cond (is_among w features) 0 (count w ns)) (at_all l.names))
     ∙ ap (λ (k : ℕ). cond (is_among w features) 0 (count w l.names) + k) (features_counted w features l)
     ∙ all_counted (is_among w features) (is_among w l.names) (count w l.names) (once_counted w l.names (stand_once l.names distinct w))
 
@@ -270,5 +292,5 @@ arranged_length features l distinct =
 
 -- ---- names that stand in the order already
 
-pub arranged_stay : (l : Listed) → variables_of [] l ++ constants_of [] l ≡ range_with_len 0 (length l.names) → arranged [] l ≡ l.names
-arranged_stay l h = append-nil (names_at l.names (variables_of [] l ++ constants_of [] l)) ∙ ap (names_at l.names) h ∙ at_all l.names
+pub arranged_stay : (l : Listed) → variables_of [] l ++ (locals_of [] l ++ constants_of [] l) ≡ range_with_len 0 (length l.names) → arranged [] l ≡ l.names
+arranged_stay l h = append-nil (names_at l.names (variables_of [] l ++ (locals_of [] l ++ constants_of [] l))) ∙ ap (names_at l.names) h ∙ at_all l.names

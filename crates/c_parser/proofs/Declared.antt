@@ -1,9 +1,9 @@
 -- The names of a file whose names have no fault: they are those that it declares.
 use Rattle.std.proofs.Common.{◌≡◌, ℕ, ◌<◌, Bool, true, false, List, [], ◌∷◌, ◌++◌, length, get_or, Option, Some, None, refl, sym, ap, subst, ◌∙◌, append_assoc, append-nil, arith, inl, inr}
-use Rattle.std.specs.Prelude.{IfSome, option_map, nat_eq, if◌then◌else◌, ◌||◌}
+use Rattle.std.specs.Prelude.{IfSome, option_map, nat_eq, if◌then◌else◌, not, ◌&&◌, ◌||◌}
 use Rattle.std.specs.List.{list_any}
 use Rattle.std.specs.Str.{bytes_eq}
-use Rattle.std.proofs.lemmas.Bool.{eq-eqb, eqb-true, or_right, both_ways}
+use Rattle.std.proofs.lemmas.Bool.{eq-eqb, eqb-true, or_right}
 use Rattle.std.proofs.lemmas.List.{map-append}
 use Rattle.std.proofs.lemmas.List.Folds.{list_any-append}
 use Rattle.fam_outer.specs.declared.faults.Place.{Place}
@@ -18,17 +18,20 @@ use Rattle.c_grammar.specs.declared.items.Sign.{Sign}
 use Rattle.c_grammar.specs.declared.items.Sign.TheVariants as signs
 use Rattle.c_grammar.specs.Facts.{IsFit, AreFit}
 use Rattle.c_grammar.specs.Grammar.{at}
-use Rattle.c_grammar.specs.Locals.{declares_behind, declarations_from, is_in_own}
+use Rattle.c_grammar.specs.Constants.{is_name}
+use Rattle.c_grammar.specs.Locals.{is_main, declares_behind, declarations_from, of_declarations, is_in_own}
+use Rattle.c_grammar.specs.Scopes.{is_open_behind, scoped_from, names_in_scope}
 use Rattle.c_parser.specs.declared.names.Limits.{Limits}
 use Rattle.c_parser.specs.Signs.{keyword_of, mark_of, sign_in, marks}
-use Rattle.c_parser.specs.Items.{AreDistinct, is_function, number_in, with_name, identifier_sign, names_with_identifier, word_sign, sign_of, names_with_word, names_with, lexeme_in, names_from, items_over}
+use Rattle.c_parser.specs.Items.{is_function, number_in, with_name, identifier_sign, names_with_identifier, word_sign, sign_of, names_with_word, names_with, lexeme_in, names_from, items_over}
 use Rattle.c_parser.specs.Judging.{counted}
 use Rattle.c_parser.specs.Signing.{items_from}
 use Rattle.c_parser.specs.Reading.{AreAmong}
-use Rattle.c_parser.specs.Names.{has_main, is_used_behind, name_of, names_of, names_at, declared_by, limit_fault, declaration_fault, use_fault, name_fault, change_fault, name_fault_from}
+use Rattle.c_parser.specs.Names.{has_main, is_used_behind, name_of, names_of, names_at, each_once, declared_by, limit_fault, declaration_fault, use_fault, name_fault, change_fault, name_fault_from}
 use Rattle.c_parser.proofs.Judging.{declared_still, declared_behind, declared_on, declared_more}
 use Rattle.c_parser.proofs.Lexical.{IsConstant, new_or_old, keyword_constant, unwrapped_constant, table_constant, marks_constant}
-use Rattle.c_parser.proofs.NameNumbers.{AreBelow, at_number, name_among, number_among}
+use Rattle.c_parser.proofs.Arranging.{each_among}
+use Rattle.c_parser.proofs.NameNumbers.{at_number, name_among}
 
 -- ---- no fault
 
@@ -57,6 +60,26 @@ declaration_none limits ds x h = elim (list_any (nat_eq x) ds) as (λ b. second_
   | false ↦ λ g. (refl, g)
 ] h
 
+-- ---- what is in scope is declared
+
+or_follows : (a b c : Bool) → (b ≡ true → c ≡ true) → (a || b) ≡ true → (a || c) ≡ true
+or_follows true b c h e = refl
+or_follows false b c h e = h e
+
+among_scoped : (x n : ℕ) (main : Bool) (items : List Item) → list_any (nat_eq x) (names_of (scoped_from n main items)) ≡ true → list_any (nat_eq x) (names_of items) ≡ true
+among_scoped x n main [] h = h
+among_scoped x n main (y ∷ ys) h =
+    let scoped = scoped_from n (main || is_main y.sign) ys in
+    let so = among_scoped x n (main || is_main y.sign) ys in
+    list_any-append (nat_eq x) (name_of y.sign) (names_of ys)
+    ∙ elim (main && is_name y.sign && not (is_open_behind n ys)) as (λ b. list_any (nat_eq x) (names_of (if b then scoped_from n (main || is_main y.sign) ys else y ∷ scoped_from n (main || is_main y.sign) ys)) ≡ true → (list_any (nat_eq x) (name_of y.sign) || list_any (nat_eq x) (names_of ys)) ≡ true) [
+      | true ↦ λ e. or_right (list_any (nat_eq x) (name_of y.sign)) (list_any (nat_eq x) (names_of ys)) (so e)
+      | false ↦ λ e. or_follows (list_any (nat_eq x) (name_of y.sign)) (list_any (nat_eq x) (names_of scoped)) (list_any (nat_eq x) (names_of ys)) so (sym (list_any-append (nat_eq x) (name_of y.sign) (names_of scoped)) ∙ e)
+    ] h
+
+scope_declared : (x : ℕ) (before : List Item) → list_any (nat_eq x) (names_in_scope before) ≡ true → list_any (nat_eq x) (declared_by before) ≡ true
+scope_declared x before h = among_scoped x 0 false (of_declarations before) h
+
 -- ---- the names so far are those that are declared so far
 
 -- the number of one of these names that is not one too many
@@ -64,23 +87,25 @@ pub record IsNumber (limits : Limits) (all : List (List ℕ)) (x : ℕ) : Type 0
   pub below : x < length all
   pub within : limit_fault (counted limits) x ≡ None
 
--- of all names, the items declare these in their order
+-- of all names, the items declare these, in the order of their first declarations
 pub record AreTold (limits : Limits) (all names : List (List ℕ)) (items : List Item) : Type 0 where
-  pub told : names_at all (declared_by items) ≡ names
+  pub told : each_once [] (names_at all (declared_by items)) ≡ names
   pub each : (x : ℕ) → list_any (nat_eq x) (declared_by items) ≡ true → IsNumber limits all x
 
 -- nothing more is declared
 still_told : (limits : Limits) (all names : List (List ℕ)) (before more : List Item) → declared_by more ≡ declared_by before → AreTold limits all names before → AreTold limits all names more
-still_told limits all names before more same h = record { told = ap (names_at all) same ∙ h.told; each = λ x e. h.each x (ap (list_any (nat_eq x)) (sym same) ∙ e) }
+still_told limits all names before more same h = record { told = ap (λ (ds : List ℕ). each_once [] (names_at all ds)) same ∙ h.told; each = λ x e. h.each x (ap (list_any (nat_eq x)) (sym same) ∙ e) }
 
 other_step : (limits : Limits) (all names : List (List ℕ)) (before : List Item) (p : Place) (s : Sign) → name_of s ≡ [] → AreTold limits all names before → AreTold limits all names (before ++ at p s ∷ [])
 other_step limits all names before p s none h = still_told limits all names before (before ++ at p s ∷ []) (declared_still before (at p s) none) h
 
 -- a name that is used stands among the names so far
 used_step : (limits : Limits) (all names : List (List ℕ)) (w : List ℕ) (before : List Item) (p : Place) (own : Bool) → list_any (bytes_eq w) all ≡ true → AreTold limits all names before → is_used_behind before ≡ true
-    → use_fault (counted limits) own (declared_by before) (number_in all w) ≡ None → AreTold limits all (with_name names w) (before ++ at p (signs.Name (number_in all w)) ∷ [])
+    → use_fault (counted limits) own (names_in_scope before) (number_in all w) ≡ None → AreTold limits all (with_name names w) (before ++ at p (signs.Name (number_in all w)) ∷ [])
 used_step limits all names w before p own found h used none =
-    let here : list_any (bytes_eq w) names ≡ true = ap (list_any (bytes_eq w)) (sym h.told) ∙ name_among all (declared_by before) w found (use_none limits own (declared_by before) (number_in all w) none) in
+    let declared = scope_declared (number_in all w) before (use_none limits own (names_in_scope before) (number_in all w) none) in
+    let here : list_any (bytes_eq w) names ≡ true =
+    ap (list_any (bytes_eq w)) (sym h.told) ∙ each_among w [] (names_at all (declared_by before)) ∙ name_among all (declared_by before) w found declared in
     subst (λ (ns : List (List ℕ)). AreTold limits all ns (before ++ at p (signs.Name (number_in all w)) ∷ [])) (sym (ap (λ (b : Bool). if b then names else names ++ w ∷ []) here))
     (still_told limits all names before (before ++ at p (signs.Name (number_in all w)) ∷ []) (declared_behind before (at p (signs.Name (number_in all w))) used) h)
 
@@ -90,24 +115,23 @@ only x y e = elim (nat_eq x y) as (λ b. nat_eq x y ≡ b → (b || false) ≡ t
   | false ↦ λ _ g. absurd cc
 ] refl e
 
--- a name that is declared is new behind them
-declared_step : (limits : Limits) (all names : List (List ℕ)) (w : List ℕ) (before : List Item) (p : Place) → AreDistinct all → number_in all w < length all → list_any (bytes_eq w) all ≡ true → AreTold limits all names before → is_used_behind before ≡ false
-    → declaration_fault (counted limits) (declared_by before) (number_in all w) ≡ None → AreTold limits all (with_name names w) (before ++ at p (signs.Name (number_in all w)) ∷ [])
-declared_step limits all names w before p distinct lt found h used none =
-    let x = number_in all w in
-    let d = declaration_none limits (declared_by before) (number_in all w) none in
-    let below : AreBelow (length all) (declared_by before) = λ y e. (h.each y e).below in
-    let new : list_any (bytes_eq w) names ≡ false = elim (list_any (bytes_eq w) names) as (λ b. list_any (bytes_eq w) names ≡ b → b ≡ false) [
-      | true ↦ λ e. absurd (both_ways (list_any (nat_eq (number_in all w)) (declared_by before)) d.0 (number_among all (declared_by before) w distinct below (ap (list_any (bytes_eq w)) h.told ∙ e)))
-      | false ↦ λ _. refl
-    ] refl in
+-- a name behind others, each once
+once_more : (seen names : List (List ℕ)) (w : List ℕ) → each_once seen (names ++ w ∷ []) ≡ with_name (each_once seen names) w
+once_more seen [] w = refl
+once_more seen (n ∷ ns) w = once_more (with_name seen n) ns w
+
+-- a name that is declared comes behind them, if it is new
+declared_step : (limits : Limits) (all names : List (List ℕ)) (w : List ℕ) (before : List Item) (p : Place) → number_in all w < length all → list_any (bytes_eq w) all ≡ true → AreTold limits all names before → is_used_behind before ≡ false
+    → declaration_fault (counted limits) (names_in_scope before) (number_in all w) ≡ None → AreTold limits all (with_name names w) (before ++ at p (signs.Name (number_in all w)) ∷ [])
+declared_step limits all names w before p lt found h used none =
+    let d = declaration_none limits (names_in_scope before) (number_in all w) none in
     let more : declared_by (before ++ at p (signs.Name (number_in all w)) ∷ []) ≡ declared_by before ++ number_in all w ∷ [] = declared_on before (at p (signs.Name (number_in all w))) used in
-    subst (λ (ns : List (List ℕ)). AreTold limits all ns (before ++ at p (signs.Name (number_in all w)) ∷ [])) (sym (ap (λ (b : Bool). if b then names else names ++ w ∷ []) new)) (record {
+    record {
       told =
-          ap (names_at all) more
-          ∙ map-append (λ (i : ℕ). get_or all i []) (declared_by before) (number_in all w ∷ [])
-          ∙ ap (λ (ns : List (List ℕ)). ns ++ get_or all (number_in all w) [] ∷ []) h.told
-          ∙ ap (λ (v : List ℕ). names ++ v ∷ []) (at_number all w found);
+          ap (λ (ds : List ℕ). each_once [] (names_at all ds)) more
+          ∙ ap (each_once []) (map-append (λ (i : ℕ). get_or all i []) (declared_by before) (number_in all w ∷ []) ∙ ap (λ (v : List ℕ). names_at all (declared_by before) ++ v ∷ []) (at_number all w found))
+          ∙ once_more [] (names_at all (declared_by before)) w
+          ∙ ap (λ (ns : List (List ℕ)). with_name ns w) h.told;
       each = λ y e. (
           let g : (list_any (nat_eq y) (declared_by before) || (nat_eq y (number_in all w) || false)) ≡ true = sym (list_any-append (nat_eq y) (declared_by before) (number_in all w ∷ [])) ∙ ap (list_any (nat_eq y)) (sym more) ∙ e in
           elim (list_any (nat_eq y) (declared_by before)) as (λ b. list_any (nat_eq y) (declared_by before) ≡ b → (b || (nat_eq y (number_in all w) || false)) ≡ true → IsNumber limits all y) [
@@ -115,19 +139,19 @@ declared_step limits all names w before p distinct lt found h used none =
             | false ↦ λ _ k. subst (IsNumber limits all) (only y (number_in all w) k) (record { below = lt; within = d.1 })
           ] refl g
           );
-    })
+    }
 
-name_step : (limits : Limits) (all names : List (List ℕ)) (w : List ℕ) (before : List Item) (p : Place) → AreDistinct all → number_in all w < length all → AreTold limits all names before → name_fault (counted limits) before (signs.Name (number_in all w)) ≡ None
+name_step : (limits : Limits) (all names : List (List ℕ)) (w : List ℕ) (before : List Item) (p : Place) → number_in all w < length all → AreTold limits all names before → name_fault (counted limits) before (signs.Name (number_in all w)) ≡ None
     → AreTold limits all (with_name names w) (before ++ at p (signs.Name (number_in all w)) ∷ [])
-name_step limits all names w before p distinct lt h none =
+name_step limits all names w before p lt h none =
     let found : list_any (bytes_eq w) all ≡ true = elim (new_or_old all w) [
       | inl new ↦ absurd (omega (arith, new.1, lt))
       | inr old ↦ old.0
     ] in
-    elim (is_used_behind before) as (λ b. is_used_behind before ≡ b → (if b then use_fault (counted limits) (is_in_own before (number_in all w)) (declared_by before) (number_in all w) else declaration_fault (counted limits) (declared_by before) (number_in all w)) ≡ None
+    elim (is_used_behind before) as (λ b. is_used_behind before ≡ b → (if b then use_fault (counted limits) (is_in_own before (number_in all w)) (names_in_scope before) (number_in all w) else declaration_fault (counted limits) (names_in_scope before) (number_in all w)) ≡ None
     → AreTold limits all (with_name names w) (before ++ at p (signs.Name (number_in all w)) ∷ [])) [
       | true ↦ λ e g. used_step limits all names w before p (is_in_own before (number_in all w)) found h e g
-      | false ↦ λ e g. declared_step limits all names w before p distinct lt found h e g
+      | false ↦ λ e g. declared_step limits all names w before p lt found h e g
     ] refl none
 
 -- ---- a token more
@@ -136,34 +160,34 @@ no_name : (s : Sign) → IsFit 0 s → name_of s ≡ []
 no_name (signs.Name x) h = absurd (omega (arith, h))
 no_name _ h = refl
 
-identifier_step : (b : Bool) (functions : List (List ℕ)) (limits : Limits) (all names : List (List ℕ)) (w : List ℕ) (before : List Item) (p : Place) → AreDistinct all → IsFit (length all) (identifier_sign b functions all w) → AreTold limits all names before
+identifier_step : (b : Bool) (functions : List (List ℕ)) (limits : Limits) (all names : List (List ℕ)) (w : List ℕ) (before : List Item) (p : Place) → IsFit (length all) (identifier_sign b functions all w) → AreTold limits all names before
     → name_fault (counted limits) before (identifier_sign b functions all w) ≡ None → AreTold limits all (names_with_identifier b names w) (before ++ at p (identifier_sign b functions all w) ∷ [])
-identifier_step true functions limits all names w before p distinct fit h none = other_step limits all names before p (signs.Function (number_in functions w)) refl h
-identifier_step false functions limits all names w before p distinct fit h none = name_step limits all names w before p distinct fit h none
+identifier_step true functions limits all names w before p fit h none = other_step limits all names before p (signs.Function (number_in functions w)) refl h
+identifier_step false functions limits all names w before p fit h none = name_step limits all names w before p fit h none
 
-word_step : (functions : List (List ℕ)) (limits : Limits) (all names : List (List ℕ)) (w : List ℕ) (o : Option Sign) → IfSome o IsConstant → (before : List Item) (p : Place) → AreDistinct all → IsFit (length all) (word_sign functions all w o) → AreTold limits all names before
+word_step : (functions : List (List ℕ)) (limits : Limits) (all names : List (List ℕ)) (w : List ℕ) (o : Option Sign) → IfSome o IsConstant → (before : List Item) (p : Place) → IsFit (length all) (word_sign functions all w o) → AreTold limits all names before
     → name_fault (counted limits) before (word_sign functions all w o) ≡ None → AreTold limits all (names_with_word functions names w o) (before ++ at p (word_sign functions all w o) ∷ [])
-word_step functions limits all names w (Some s) c before p distinct fit h none = other_step limits all names before p s (no_name s (c.0 0)) h
-word_step functions limits all names w None c before p distinct fit h none = identifier_step (is_function functions w) functions limits all names w before p distinct fit h none
+word_step functions limits all names w (Some s) c before p fit h none = other_step limits all names before p s (no_name s (c.0 0)) h
+word_step functions limits all names w None c before p fit h none = identifier_step (is_function functions w) functions limits all names w before p fit h none
 
-token_step : (functions : List (List ℕ)) (limits : Limits) (all names : List (List ℕ)) (kind : TokenKind) (w : List ℕ) (before : List Item) (p : Place) → AreDistinct all → IsFit (length all) (sign_of functions all kind w) → AreTold limits all names before
+token_step : (functions : List (List ℕ)) (limits : Limits) (all names : List (List ℕ)) (kind : TokenKind) (w : List ℕ) (before : List Item) (p : Place) → IsFit (length all) (sign_of functions all kind w) → AreTold limits all names before
     → name_fault (counted limits) before (sign_of functions all kind w) ≡ None → AreTold limits all (names_with functions names kind w) (before ++ at p (sign_of functions all kind w) ∷ [])
-token_step functions limits all names (kinds.Number n) w before p distinct fit h none = other_step limits all names before p (signs.Number n) refl h
-token_step functions limits all names kinds.Word w before p distinct fit h none = word_step functions limits all names w (keyword_of w) (keyword_constant w) before p distinct fit h none
-token_step functions limits all names kinds.Mark w before p distinct fit h none = other_step limits all names before p (mark_of w) (no_name (mark_of w) ((unwrapped_constant (sign_in marks w) (table_constant marks marks_constant w)).0 0)) h
+token_step functions limits all names (kinds.Number n) w before p fit h none = other_step limits all names before p (signs.Number n) refl h
+token_step functions limits all names kinds.Word w before p fit h none = word_step functions limits all names w (keyword_of w) (keyword_constant w) before p fit h none
+token_step functions limits all names kinds.Mark w before p fit h none = other_step limits all names before p (mark_of w) (no_name (mark_of w) ((unwrapped_constant (sign_in marks w) (table_constant marks marks_constant w)).0 0)) h
 
 -- items over names, among which are all that stand there, declare in their order those of the text
-pub names_from_declared : (functions : List (List ℕ)) (limits : Limits) (all : List (List ℕ)) → AreDistinct all → (text : List ℕ) (names : List (List ℕ)) (ts : List Token) (before : List Item) → AreFit (length all) (items_over functions all text ts) → AreTold limits all names before
+pub names_from_declared : (functions : List (List ℕ)) (limits : Limits) (all : List (List ℕ)) (text : List ℕ) (names : List (List ℕ)) (ts : List Token) (before : List Item) → AreFit (length all) (items_over functions all text ts) → AreTold limits all names before
     → name_fault_from (counted limits) before (items_over functions all text ts) ≡ None → AreTold limits all (names_from functions text names ts) (before ++ items_over functions all text ts)
-names_from_declared functions limits all distinct text names [] before fit h none = subst (AreTold limits all names) (sym (append-nil before)) h
-names_from_declared functions limits all distinct text names (t ∷ ts) before fit h none =
+names_from_declared functions limits all text names [] before fit h none = subst (AreTold limits all names) (sym (append-nil before)) h
+names_from_declared functions limits all text names (t ∷ ts) before fit h none =
     let x = at t.place (sign_of functions all t.kind (lexeme_in text t)) in
     let more = name_fault_from (counted limits) (before ++ at t.place (sign_of functions all t.kind (lexeme_in text t)) ∷ []) (items_over functions all text ts) in
     let n = split_none (name_fault (counted limits) before (sign_of functions all t.kind (lexeme_in text t))) t.place (or_later (change_fault (counted limits) before x) more) none in
     let m = later_none (change_fault (counted limits) before x) more n.1 in
     subst (AreTold limits all (names_from functions text (names_with functions names t.kind (lexeme_in text t)) ts)) (append_assoc before (at t.place (sign_of functions all t.kind (lexeme_in text t)) ∷ []) (items_over functions all text ts))
-    (names_from_declared functions limits all distinct text (names_with functions names t.kind (lexeme_in text t)) ts (before ++ at t.place (sign_of functions all t.kind (lexeme_in text t)) ∷ []) fit.1
-    (token_step functions limits all names t.kind (lexeme_in text t) before t.place distinct fit.0 h n.0) m.1)
+    (names_from_declared functions limits all text (names_with functions names t.kind (lexeme_in text t)) ts (before ++ at t.place (sign_of functions all t.kind (lexeme_in text t)) ∷ []) fit.1
+    (token_step functions limits all names t.kind (lexeme_in text t) before t.place fit.0 h n.0) m.1)
 
 -- ---- where all that is declared is given, no name is new
 
@@ -177,8 +201,8 @@ given_name : (limits : Limits) (given : List (List ℕ)) (w : List ℕ) (before 
 given_name limits given w before more p among none =
     let x : ℕ = number_in given w in
     let item : Item = at p (signs.Name (number_in given w)) in
-    elim (is_used_behind before) as (λ b. is_used_behind before ≡ b → (if b then use_fault (counted limits) (is_in_own before (number_in given w)) (declared_by before) (number_in given w) else declaration_fault (counted limits) (declared_by before) (number_in given w)) ≡ None → number_in given w < length given) [
-      | true ↦ λ e g. among x (stays_declared x before (item ∷ more) (use_none limits (is_in_own before x) (declared_by before) x g))
+    elim (is_used_behind before) as (λ b. is_used_behind before ≡ b → (if b then use_fault (counted limits) (is_in_own before (number_in given w)) (names_in_scope before) (number_in given w) else declaration_fault (counted limits) (names_in_scope before) (number_in given w)) ≡ None → number_in given w < length given) [
+      | true ↦ λ e g. among x (stays_declared x before (item ∷ more) (scope_declared x before (use_none limits (is_in_own before x) (names_in_scope before) x g)))
       | false ↦ λ e g. among x (subst (λ (ys : List Item). list_any (nat_eq x) (declared_by ys) ≡ true) (append_assoc before (item ∷ []) more) (stays_declared x (before ++ item ∷ []) more
           (ap (list_any (nat_eq x)) (declared_on before item e) ∙ list_any-append (nat_eq x) (declared_by before) (x ∷ []) ∙ or_right (list_any (nat_eq x) (declared_by before)) (list_any (nat_eq x) (x ∷ [])) (rw (eq-eqb x x refl) refl))))
     ] refl none

@@ -113,10 +113,10 @@ few_conditions dialect model text s r =
 abbrev pub NamesOccur : Type 0
 NamesOccur = (dialect : Dialect) (model : Plain) (bytes : List ℕ) (told : Told) (l : Listed) (x : ℕ) → HasItems dialect model bytes told l → x < length l.names → has x l.items ≡ true
 
-pub names_are_few : NamesOccur → (dialect : Dialect) (model : Model) (bytes : List ℕ) (known : Conditions) (p : Whole) → IsAcceptedFile (families_over dialect model) bytes known p → length p.names ≤ 32
+pub names_are_few : NamesOccur → (dialect : Dialect) (model : Model) (bytes : List ℕ) (known : Conditions) (p : Whole) → IsAcceptedFile (families_over dialect model) bytes known p → length p.names ≤ 48
 names_are_few occur dialect model bytes known p o =
     let l = o.listed in
-    subst (λ (ns : List (List ℕ)). length ns ≤ 32) (sym (ap (λ (w : Whole). w.names) o.spelled.is))
+    subst (λ (ns : List (List ℕ)). length ns ≤ 48) (sym (ap (λ (w : Whole). w.names) o.spelled.is))
     (few_names (context_of model known.atoms known.formulas o.listed.names known.functions) l.items (length l.names) o.names (λ x lt. occur dialect (plain model) bytes o.are.told l x o.are.items lt))
 
 pub conditioned : Conditioned → WithinIsFile → (features : ℕ) (p : Whole) (known : Conditions) → IsSpelledBy (AreProperConditions features) p known → IsConditioned (length known.formulas) p

@@ -1,4 +1,5 @@
--- A family without a fault of a name has at most 16 variables, and at most 16 constants and features that it uses together.
+-- A family without a fault of a name has at most 16 variables, at most 16 names that `main` declares, and at most 16 constants and features
+-- that it uses together.
 use Rattle.std.proofs.Common.{◌≡◌, ◌⊎◌, inl, inr, ℕ, ◌+◌, ◌≤◌, ◌<◌, nat_eq, nat_le, nat_lt, Bool, true, false, not, ◌&&◌, ◌||◌, List, [], ◌∷◌, ◌++◌, length, Option, Some, None, refl, sym, ap, subst, ◌∙◌, append_assoc, append-nil, arith}
 use Rattle.std.specs.Prelude.{ℤ, if◌then◌else◌}
 use Rattle.std.proofs.lemmas.Bool.{or_right}
@@ -15,19 +16,19 @@ use Rattle.c_grammar.specs.declared.items.Item.{Item}
 use Rattle.c_grammar.specs.declared.items.Sign.{Sign}
 use Rattle.c_grammar.specs.declared.items.Sign.TheVariants as signs
 use Rattle.family_names.specs.Names as family
-use Rattle.c_grammar.specs.declared.constants.NameKind.TheVariants as kinds
-use Rattle.c_grammar.specs.Constants.{is_constant, kind_after}
+use Rattle.c_grammar.specs.declared.constants.NameClass.{NameClass}
+use Rattle.c_grammar.specs.declared.constants.NameClass.TheVariants as classes
+use Rattle.c_grammar.specs.Classes.{is_class, class_in}
 use Rattle.c_grammar.specs.Grammar.{at}
-use Rattle.c_grammar.specs.Kinds.{is_declared_constant}
 use Rattle.c_grammar.specs.Locals.{declares_behind, declarations_from, of_declarations}
 use Rattle.c_grammar.proofs.Declaring.{declarations_more}
-use Rattle.family_names.specs.Judging.{with_kind}
-use Rattle.family_names.specs.Names.{has_main, behind_main, name_of, names_of, declared_by, constants_of, variables_of, values_of, test_count, is_among, with_number, each_once, is_feature, is_value, is_missed, value_fault, full_fault, new_name_fault, NameContext, is_used_behind, IsFaultFrom, IsChangeOr, changed_place, IsNameFault, IsUseFault, IsDeclarationFault, IsWithFirst, IsEither, code_with, IsThisOr}
+use Rattle.family_names.specs.Judging.{with_new}
+use Rattle.family_names.specs.Names.{has_main, behind_main, name_of, names_of, declared_by, names_of_class, constants_of, class_behind, values_of, test_count, is_among, with_number, each_once, is_feature, is_value, is_missed, value_fault, full_fault, new_name_fault, NameContext, is_used_behind, IsFaultFrom, IsChangeOr, changed_place, IsNameFault, IsUseFault, IsDeclarationFault, IsWithFirst, IsEither, code_with, IsThisOr}
 use Rattle.family_names.proofs.Declared.{AreStill, more_named, still_used, still_other, names_append, among_once, or_left}
 use Rattle.family_names.proofs.Features.{no_value}
-use Rattle.family_names.proofs.KindsBehind.{behind_none, behind_on, more_constants, more_variables, still_constants, still_valued, still_values, still_variables, value_more}
+use Rattle.family_names.proofs.ClassesBehind.{behind_none, behind_on, more_class, still_class, still_valued, still_values, value_more}
 use Rattle.c_parser.specs.FamilyItems.{is_name, has}
-use Rattle.c_parser.proofs.AmongNumbers.{or_cases, among_front, same_number, with_it, is_same, once_has, at_least, both_kinds, among_both}
+use Rattle.c_parser.proofs.AmongNumbers.{or_cases, among_front, same_number, with_it, is_same, once_has, at_least, all_classes, among_both}
 
 -- ---- declared names, one item after another
 
@@ -45,10 +46,14 @@ stays x before more h =
 abbrev pub is_named : NameContext → List Item → ℕ → Bool
 is_named context items n = is_among n (declared_by items) || is_among n (values_of context items)
 
--- the names of each kind are few, and so are the tests of the features that are used; no name of a feature is declared
+-- so many names are counted for a class, where so many are of it and so many features are used as values
+abbrev taken : NameClass → ℕ → ℕ → ℕ
+taken classes.Constant names values = names + values
+taken _ names values = names
+
+-- the names of each class are few, and so are the tests of the features that are used; no name of a feature is declared
 pub record AreFew (context : NameContext) (items : List Item) : Type 0 where
-  pub variables : length (variables_of items) ≤ 16
-  pub others : length (constants_of items) + length (values_of context items) ≤ 16
+  pub names : (class : NameClass) → taken class (length (names_of_class class items)) (length (values_of context items)) ≤ 16
   pub tests : test_count context (values_of context items) ≤ 256
   pub apart : (n : ℕ) → is_among n (declared_by items) ≡ true → is_feature context n ≡ false
 
@@ -61,11 +66,15 @@ pub no_other : (code : Option (List ℤ) → FileCode) (other : Option FileCode)
 no_other code other None e = sym e
 no_other code other (Some config) e = absurd cc
 
--- the same kinds of names, and the same values
-same_few : (context : NameContext) (before after : List Item) → declared_by after ≡ declared_by before → variables_of after ≡ variables_of before → constants_of after ≡ constants_of before → values_of context after ≡ values_of context before → AreFew context before → AreFew context after
-same_few context before after d v c u f = record {
-  variables = subst (λ (ns : List ℕ). length ns ≤ 16) (sym v) f.variables;
-  others = subst (λ (ns : List ℕ). length ns + length (values_of context after) ≤ 16) (sym c) (subst (λ (ns : List ℕ). length (constants_of before) + length ns ≤ 16) (sym u) f.others);
+-- the same names of each class
+abbrev AreSame : List Item → List Item → Type 0
+AreSame before after = (class : NameClass) → names_of_class class after ≡ names_of_class class before
+
+-- the same names, and the same values
+same_few : (context : NameContext) (before after : List Item) → declared_by after ≡ declared_by before → AreSame before after → values_of context after ≡ values_of context before → AreFew context before → AreFew context after
+same_few context before after d c u f = record {
+  names = λ class. subst (λ (ns : List ℕ). taken class (length ns) (length (values_of context after)) ≤ 16) (sym (c class))
+      (subst (λ (ns : List ℕ). taken class (length (names_of_class class before)) (length ns) ≤ 16) (sym u) (f.names class));
   tests = subst (λ (ns : List ℕ). test_count context ns ≤ 256) (sym u) f.tests;
   apart = λ n h. f.apart n (ap (is_among n) (sym d) ∙ h);
 }
@@ -84,7 +93,7 @@ silent_step : (context : NameContext) (before : List Item) (x : Item) → name_o
 silent_step context before x e f =
     let still = still_other before x e in
     record {
-      few = same_few context before (before ++ x ∷ []) still.any (still_variables before x still) (still_constants before x still) (still_values context before x e) f;
+      few = same_few context before (before ++ x ∷ []) still.any (λ class. still_class class before x still) (still_values context before x e) f;
       named = λ n k. absurd (not_named n x.sign e k);
     }
 
@@ -116,24 +125,31 @@ no_value_fault false true c e = absurd cc
 no_value_fault false false true e = absurd cc
 no_value_fault false false false e = inr (refl, refl)
 
-with_new : (used : List ℕ) (n : ℕ) → is_among n used ≡ false → with_number used n ≡ used ++ n ∷ []
-with_new used n e = ap (λ (b : Bool). if b then used else used ++ n ∷ []) e
+with_unused : (used : List ℕ) (n : ℕ) → is_among n used ≡ false → with_number used n ≡ used ++ n ∷ []
+with_unused used n e = ap (λ (b : Bool). if b then used else used ++ n ∷ []) e
 
 with_old : (used : List ℕ) (n : ℕ) → is_among n used ≡ true → with_number used n ≡ used
 with_old used n e = ap (λ (b : Bool). if b then used else used ++ n ∷ []) e
 
-more_values : (context : NameContext) (before after : List Item) (n : ℕ) → declared_by after ≡ declared_by before → variables_of after ≡ variables_of before → constants_of after ≡ constants_of before → values_of context after ≡ with_number (values_of context before) n
+-- one more value has room too
+value_room : (names : NameClass → ℕ) (class : NameClass) (old new : ℕ) → new ≡ old + 1 → names classes.Constant + old < 16 → taken class (names class) old ≤ 16 → taken class (names class) new ≤ 16
+value_room names classes.Constant old new e lt le = omega (arith, e, lt)
+value_room names classes.Local old new e lt le = le
+value_room names classes.Variable old new e lt le = le
+
+more_values : (context : NameContext) (before after : List Item) (n : ℕ) → declared_by after ≡ declared_by before → AreSame before after → values_of context after ≡ with_number (values_of context before) n
     → None ≡ value_fault context (values_of context before) (length (constants_of before)) n → AreFew context before → AreFew context after
-more_values context before after n d v c u none f =
+more_values context before after n d c u none f =
     elim (no_value_fault (is_among n (values_of context before)) (nat_lt 256 (test_count context (values_of context before ++ n ∷ []))) (nat_le 16 (length (constants_of before) + length (values_of context before))) none) [
-      | inl old ↦ same_few context before after d v c (u ∙ with_old (values_of context before) n old) f
+      | inl old ↦ same_few context before after d c (u ∙ with_old (values_of context before) n old) f
       | inr room ↦ elim (is_among n (values_of context before)) as (λ b. is_among n (values_of context before) ≡ b → AreFew context after) [
-        | true ↦ λ old. same_few context before after d v c (u ∙ with_old (values_of context before) n old) f
+        | true ↦ λ old. same_few context before after d c (u ∙ with_old (values_of context before) n old) f
         | false ↦ λ new. (
-            let is : values_of context after ≡ values_of context before ++ n ∷ [] = u ∙ with_new (values_of context before) n new in
+            let is : values_of context after ≡ values_of context before ++ n ∷ [] = u ∙ with_unused (values_of context before) n new in
             record {
-              variables = subst (λ (ns : List ℕ). length ns ≤ 16) (sym v) f.variables;
-              others = omega (arith, not_full (length (constants_of before) + length (values_of context before)) room.1, ap length c, ap length is, length-append (values_of context before) (n ∷ []));
+              names = λ class. subst (λ (ns : List ℕ). taken class (length ns) (length (values_of context after)) ≤ 16) (sym (c class))
+                  (value_room (λ (other : NameClass). length (names_of_class other before)) class (length (values_of context before)) (length (values_of context after)) (omega (arith, ap length is, length-append (values_of context before) (n ∷ [])))
+                  (not_full (length (constants_of before) + length (values_of context before)) room.1) (f.names class));
               tests = subst (λ (ns : List ℕ). test_count context ns ≤ 256) (sym is) (not_more (test_count context (values_of context before ++ n ∷ [])) room.0);
               apart = λ k h. f.apart k (ap (is_among k) (sym d) ∙ h);
             })
@@ -164,13 +180,13 @@ use_step context before x n e u h f =
       | true ↦ λ v k. (
           let is : values_of context (before ++ x ∷ []) ≡ with_number (values_of context before) n = more ∙ ap (λ (b : Bool). if b then with_number (values_of context before) n else values_of context before) v in
           record {
-            few = more_values context before after n still.any (still_variables before x still) (still_constants before x still) is k f;
+            few = more_values context before after n still.any (λ class. still_class class before x still) is k f;
             named = λ j. this_named context after x n j e (or_right (is_among n (declared_by (before ++ x ∷ []))) (is_among n (values_of context (before ++ x ∷ []))) (ap (is_among n) is ∙ with_it n (values_of context before)));
           })
       | false ↦ λ v k. (
           let is : values_of context (before ++ x ∷ []) ≡ values_of context before = more ∙ ap (λ (b : Bool). if b then with_number (values_of context before) n else values_of context before) v in
           record {
-            few = same_few context before after still.any (still_variables before x still) (still_constants before x still) is f;
+            few = same_few context before after still.any (λ class. still_class class before x still) is f;
             named = λ j. this_named context after x n j e (or_left (is_among n (declared_by (before ++ x ∷ []))) (is_among n (values_of context (before ++ x ∷ []))) (ap (is_among n) still.any ∙ used_other context before n k));
           })
     ] refl h
@@ -189,59 +205,65 @@ some_if : (code : FileCode) (b : Bool) → (if b then Some code else None) ≡ N
 some_if code true e = absurd cc
 some_if code false e = refl
 
--- the names of its kind have room, and the others stay
-with_room : (kind : Bool) (names constants variables : List ℕ) (values n : ℕ) → (is_among n names ≡ true) ⊎ (full_fault kind (length constants + values) (length variables) ≡ None) → length variables ≤ 16 → length constants + values ≤ 16
-    → (length (with_kind (not kind) names variables n) ≤ 16) × (length (with_kind kind names constants n) + values ≤ 16)
-with_room true names constants variables values n (inl old) le room = (le, subst (λ (b : Bool). length (if not b then constants ++ n ∷ [] else constants) + values ≤ 16) (sym old) room)
-with_room true names constants variables values n (inr full) le room = (
-  le,
-  (elim (is_among n names) as (λ b. length (if not b then constants ++ n ∷ [] else constants) + values ≤ 16) [
-    | true ↦ room
-    | false ↦ omega (arith, not_full (length constants + values) (some_if TooManyConstants (nat_le 16 (length constants + values)) full), length-append constants (n ∷ []))
-  ]),
-)
-with_room false names constants variables values n (inl old) le room = (subst (λ (b : Bool). length (if not b then variables ++ n ∷ [] else variables) ≤ 16) (sym old) le, room)
-with_room false names constants variables values n (inr full) le room = (
-  (elim (is_among n names) as (λ b. length (if not b then variables ++ n ∷ [] else variables) ≤ 16) [
-    | true ↦ le
-    | false ↦ omega (arith, not_full (length variables) (some_if TooManyVariables (nat_le 16 (length variables)) full), length-append variables (n ∷ []))
-  ]),
-  room,
-)
+one_more : (names others : List ℕ) (n : ℕ) → length (with_new true names others n) ≤ length others + 1
+one_more names others n = elim (is_among n names) as (λ b. length (if not b then others ++ n ∷ [] else others) ≤ length others + 1) [
+  | true ↦ omega arith
+  | false ↦ omega (arith, length-append others (n ∷ []))
+]
 
--- what no fault says of a declaration: its name is no feature's, and it is an old one, or there is room for one of its kind
-abbrev kind_full : NameContext → List Item → Option FileCode
-kind_full context before = full_fault (is_constant (kind_after kinds.Variable before)) (length (constants_of before) + length (values_of context before)) (length (variables_of before))
+no_more : (of_it : Bool) (names others : List ℕ) (n : ℕ) → is_among n names ≡ true → with_new of_it names others n ≡ others
+no_more true names others n old = ap (λ (b : Bool). if not b then others ++ n ∷ [] else others) old
+no_more false names others n old = refl
+
+-- the names of its class have room, and the others stay
+with_room : (others : NameClass → List ℕ) (class other : NameClass) (names : List ℕ) (values n : ℕ) → (is_among n names ≡ true) ⊎ (full_fault class (length (others class)) values ≡ None)
+    → taken other (length (others other)) values ≤ 16 → taken other (length (with_new (is_class other class) names (others other) n)) values ≤ 16
+with_room others class other names values n (inl old) le = subst (λ (ns : List ℕ). taken other (length ns) values ≤ 16) (sym (no_more (is_class other class) names (others other) n old)) le
+with_room others classes.Variable classes.Variable names values n (inr full) le =
+    let variables = others classes.Variable in
+    omega (arith, one_more names variables n, not_full (length variables) (some_if TooManyVariables (nat_le 16 (length variables)) full))
+with_room others classes.Variable classes.Local names values n (inr full) le = le
+with_room others classes.Variable classes.Constant names values n (inr full) le = le
+with_room others classes.Local classes.Variable names values n (inr full) le = le
+with_room others classes.Local classes.Local names values n (inr full) le =
+    let locals = others classes.Local in
+    omega (arith, one_more names locals n, not_full (length locals) (some_if TooManyVariables (nat_le 16 (length locals)) full))
+with_room others classes.Local classes.Constant names values n (inr full) le = le
+with_room others classes.Constant classes.Variable names values n (inr full) le = le
+with_room others classes.Constant classes.Local names values n (inr full) le = le
+with_room others classes.Constant classes.Constant names values n (inr full) le =
+    let constants = others classes.Constant in
+    omega (arith, one_more names constants n, not_full (length constants + values) (some_if TooManyConstants (nat_le 16 (length constants + values)) full))
+
+-- what no fault says of a declaration: its name is no feature's, and it is an old one, or there is room for one of its class
+abbrev class_full : NameContext → List Item → Option FileCode
+class_full context before = full_fault (class_behind before) (length (names_of_class (class_behind before) before)) (length (values_of context before))
 
 pub no_feature_declared : (context : NameContext) (before : List Item) (n : ℕ) → IsDeclarationFault context before n None → is_feature context n ≡ false
 no_feature_declared context before n h =
-    no_feature (is_feature context n) (is_among n (declared_by before)) (kind_full context before) (no_other Twice (new_name_fault context before n) h.found h.fault_is)
+    no_feature (is_feature context n) (is_among n (declared_by before)) (class_full context before) (no_other Twice (new_name_fault context before n) h.found h.fault_is)
 
-old_or_room : (context : NameContext) (before : List Item) (n : ℕ) → IsDeclarationFault context before n None → (is_among n (each_once [] (declared_by before)) ≡ true) ⊎ (kind_full context before ≡ None)
+old_or_room : (context : NameContext) (before : List Item) (n : ℕ) → IsDeclarationFault context before n None → (is_among n (each_once [] (declared_by before)) ≡ true) ⊎ (class_full context before ≡ None)
 old_or_room context before n h =
-    elim (no_new_fault (is_feature context n) (is_among n (declared_by before)) (kind_full context before) (no_other Twice (new_name_fault context before n) h.found h.fault_is)) [
+    elim (no_new_fault (is_feature context n) (is_among n (declared_by before)) (class_full context before) (no_other Twice (new_name_fault context before n) h.found h.fault_is)) [
       | inl old ↦ inl (once_has n [] (declared_by before) old)
       | inr full ↦ inr full
     ]
 
 declaration_step : (context : NameContext) (before : List Item) (x : Item) (n : ℕ) → x.sign ≡ signs.Name n → is_used_behind before ≡ false → IsDeclarationFault context before n None → AreFew context before → IsFine context before x
 declaration_step context before x n e u h f =
-    let kind = is_constant (kind_after kinds.Variable before) in
     let names = each_once [] (declared_by before) in
     let all : declared_by (before ++ x ∷ []) ≡ declared_by before ++ n ∷ [] = ap (λ (y : Item). declared_by (before ++ y ∷ [])) (sym (at_name x n e)) ∙ (more_named before x.place n u).any in
     let other : is_feature context n ≡ false = no_feature_declared context before n h in
-    let room = with_room kind names (constants_of before) (variables_of before) (length (values_of context before)) n (old_or_room context before n h) f.variables f.others in
-    let constants : constants_of (before ++ x ∷ []) ≡ with_kind (is_constant (kind_after kinds.Variable before)) (each_once [] (declared_by before)) (constants_of before) n =
-    ap (λ (y : Item). constants_of (before ++ y ∷ [])) (sym (at_name x n e)) ∙ more_constants before x.place n u in
-    let variables : variables_of (before ++ x ∷ []) ≡ with_kind (not (is_constant (kind_after kinds.Variable before))) (each_once [] (declared_by before)) (variables_of before) n =
-    ap (λ (y : Item). variables_of (before ++ y ∷ [])) (sym (at_name x n e)) ∙ more_variables before x.place n u in
+    let more : (class : NameClass) → names_of_class class (before ++ x ∷ []) ≡ with_new (is_class class (class_behind before)) (each_once [] (declared_by before)) (names_of_class class before) n =
+    λ class. ap (λ (y : Item). names_of_class class (before ++ y ∷ [])) (sym (at_name x n e)) ∙ more_class class before x.place n u in
     let values : values_of context (before ++ x ∷ []) ≡ values_of context before =
     ap (λ (y : Item). values_of context (before ++ y ∷ [])) (sym (at_name x n e)) ∙ still_valued context before x.place n (no_value context n other) in
     record {
       few = record {
-        variables = subst (λ (ns : List ℕ). length ns ≤ 16) (sym variables) room.0;
-        others = subst (λ (ns : List ℕ). length ns + length (values_of context (before ++ x ∷ [])) ≤ 16) (sym constants)
-            (subst (λ (ns : List ℕ). length (with_kind (is_constant (kind_after kinds.Variable before)) (each_once [] (declared_by before)) (constants_of before) n) + length ns ≤ 16) (sym values) room.1);
+        names = λ class. subst (λ (ns : List ℕ). taken class (length ns) (length (values_of context (before ++ x ∷ []))) ≤ 16) (sym (more class))
+            (subst (λ (ns : List ℕ). taken class (length (with_new (is_class class (class_behind before)) (each_once [] (declared_by before)) (names_of_class class before) n)) (length ns) ≤ 16) (sym values)
+            (with_room (λ (other : NameClass). names_of_class other before) (class_behind before) class names (length (values_of context before)) n (old_or_room context before n h) (f.names class)));
         tests = subst (λ (ns : List ℕ). test_count context ns ≤ 256) (sym values) f.tests;
         apart = λ k i. (elim (or_cases (is_among k (declared_by before)) (is_among k (n ∷ [])) (sym (list_any-append (nat_eq k) (declared_by before) (n ∷ [])) ∙ ap (is_among k) (sym all) ∙ i)) [
           | inl old ↦ f.apart k old
@@ -324,16 +346,21 @@ walk context before (x ∷ xs) h f =
     let g = step context before x (subst (λ (c : Option FileCode). IsNameFault context before x.sign c) l.0 h.1) f in
     all_steps context before x xs g (walk context (before ++ x ∷ []) xs m.1 g.few)
 
+none_yet : (class : NameClass) → taken class 0 0 ≤ 16
+none_yet classes.Variable = omega arith
+none_yet classes.Local = omega arith
+none_yet classes.Constant = omega arith
+
 -- the names of a family without a fault
 pub all_fine : (context : NameContext) (items : List Item) → family.IsFirstNameFault context items None → AreFine context [] items
-all_fine context items h = walk context [] items h (record { variables = omega arith; others = omega arith; tests = omega arith; apart = λ n e. absurd cc })
+all_fine context items h = walk context [] items h (record { names = none_yet; tests = omega arith; apart = λ n e. absurd cc })
 
--- a family of which each name occurs and none has a fault has at most 32 names
-pub few_names : (context : NameContext) (items : List Item) (count : ℕ) → family.IsFirstNameFault context items None → ((x : ℕ) → x < count → has x items ≡ true) → count ≤ 32
+-- a family of which each name occurs and none has a fault has at most 48 names
+pub few_names : (context : NameContext) (items : List Item) (count : ℕ) → family.IsFirstNameFault context items None → ((x : ℕ) → x < count → has x items ≡ true) → count ≤ 48
 few_names context items count h occur =
     let f = all_fine context items h in
     let all = each_once [] (declared_by items) in
     let values = values_of context items in
     let most : count ≤ length (each_once [] (declared_by items) ++ values_of context items) =
     at_least count (all ++ values) (λ x lt. among_both x all values (is_among x (declared_by items)) (sym (among_once x [] (declared_by items))) (f.named x (occur x lt))) in
-    omega (arith, most, length-append (each_once [] (declared_by items)) (values_of context items), both_kinds (is_declared_constant items) (each_once [] (declared_by items)), f.few.variables, f.few.others)
+    omega (arith, most, length-append (each_once [] (declared_by items)) (values_of context items), all_classes (class_in items) (each_once [] (declared_by items)), f.few.names classes.Variable, f.few.names classes.Local, f.few.names classes.Constant)

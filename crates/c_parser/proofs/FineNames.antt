@@ -1,7 +1,6 @@
 -- A name of the items that stay at a valid configuration has no fault, where it has none in the family.
 use Rattle.std.proofs.Common.{◌≡◌, ℕ, ◌+◌, nat_eq, nat_lt, Bool, true, false, not, ◌||◌, ◌&&◌, List, [], length, Option, Some, None, refl, sym, ap, subst, ◌∙◌, inl, inr, arith}
 use Rattle.std.specs.Prelude.{ℤ, ◌⊎◌, if◌then◌else◌}
-use Rattle.std.proofs.lemmas.Bool.Decides.{nat_tests}
 use Rattle.fam_outer.specs.declared.faults.FileCode.{FileCode}
 use Rattle.fam_outer.specs.declared.faults.FileCode.TheVariants.{Undeclared, Twice, FeatureInCode, TooManyVariables, TooManyConstants}
 use Rattle.cpp_conditions.specs.Validity.{plain, IsValid}
@@ -11,12 +10,14 @@ use Rattle.c_grammar.specs.declared.items.Sign.TheVariants as signs
 use Rattle.c_grammar.specs.Functions.{function_of}
 use Rattle.c_grammar.specs.Grammar.{is_group}
 use Rattle.c_grammar.specs.Kept.{kept}
+use Rattle.c_grammar.specs.Scopes.{names_in_scope, AreLevel}
 use Rattle.c_grammar.specs.Locals.{is_in_own, is_open, AreOutside as StandOutside}
-use Rattle.family_names.specs.Names.{NameContext, truths_at, name_of, declared_by, declared_at, constants_of, values_of, is_among, is_kept, is_missed, is_met_again, is_feature, is_value, is_used_behind, value_fault, new_name_fault, IsWithFirst, IsEither, IsNameFault, IsUseFault, IsDeclarationFault}
+use Rattle.family_names.specs.Names.{NameContext, truths_at, name_of, declared_by, in_scope_at, constants_of, values_of, is_among, is_kept, is_missed, is_met_again, is_feature, is_value, is_used_behind, value_fault, new_name_fault, IsWithFirst, IsEither, IsNameFault, IsUseFault, IsDeclarationFault}
 use Rattle.family_names.proofs.Features.{no_value}
 use Rattle.c_parser.specs.Names as alone
 use Rattle.c_parser.proofs.FewNames.{names_this, no_feature_declared}
-use Rattle.c_parser.proofs.KeptNames.{AreOutside, MainStays, stays_next, and_right, declared_alone, declared_kept, open_kept, used_kept, nowhere}
+use Rattle.c_parser.proofs.KeptNames.{AreOutside, MainStays, stays_next, and_right, open_kept, used_kept, nowhere}
+use Rattle.c_parser.proofs.KeptScopes.{names_in_scope_kept}
 
 silent_fault : (o : alone.Outside) (before : List Item) (s : Sign) → name_of s ≡ [] → function_of s ≡ [] → alone.name_fault o before s ≡ None
 silent_fault o before (signs.Name n) e f = absurd cc
@@ -45,19 +46,19 @@ not_missed context before n values h v =
       ] k)
     ] h
 
--- a name that stays is declared by what stays before it, and its scope has begun
+-- a declaration of a name that stays is in scope among what stays before it, and the name is behind its declarator
 abbrev is_known : NameContext → List Item → ℕ → List ℤ → Bool
-is_known context before n values = not (is_in_own before n) && is_among n (declared_at (truths_at context values) before)
+is_known context before n values = not (is_in_own before n) && is_among n (in_scope_at (truths_at context values) before)
 
-in_scope : (own declared : Bool) → (own || not declared) ≡ false → (not own && declared) ≡ true
-in_scope true declared e = absurd cc
-in_scope false true e = refl
-in_scope false false e = absurd cc
+both_so : (own shown : Bool) → (own || not shown) ≡ false → (not own && shown) ≡ true
+both_so true shown e = absurd cc
+both_so false true e = refl
+both_so false false e = absurd cc
 
 declared_before : (context : NameContext) (before : List Item) (n : ℕ) (values : List ℤ) → IsOther context before n → IsValid (plain context.model) values → is_kept (truths_at context values) before ≡ true → is_known context before n values ≡ true
 declared_before context before n values h v k =
-    let declared = is_among n (declared_at (truths_at context values) before) in
-    in_scope (is_in_own before n) declared (sym (ap (λ (b : Bool). b && (is_in_own before n || not declared)) k) ∙ not_missed context before n values h v)
+    let shown = is_among n (in_scope_at (truths_at context values) before) in
+    both_so (is_in_own before n) shown (sym (ap (λ (b : Bool). b && (is_in_own before n || not shown)) k) ∙ not_missed context before n values h v)
 
 -- it has a value from outside, or a declaration that stays
 known_use : (context : NameContext) (o : alone.Outside) (values : List ℤ) (before : List Item) (n : ℕ) → AreOutside context o → IsValid (plain context.model) values → IsUseFault context before n None → is_kept (truths_at context values) before ≡ true
@@ -69,62 +70,58 @@ known_use context o values before n a v u k =
       | false ↦ λ other. declared_before context before n values other v k
     ] u
 
--- what stays before a name declares what is declared where each condition has its truth
-stays_declared : (truths : List Bool) (before : List Item) → StandOutside false None before → MainStays truths [] before → alone.declared_by (kept truths before) ≡ declared_at truths before
-stays_declared truths before h m = declared_alone (kept truths before) ∙ declared_kept truths before h m
-
-use_fine : (context : NameContext) (o : alone.Outside) (values : List ℤ) (before : List Item) (n : ℕ) → AreOutside context o → StandOutside false None before → IsValid (plain context.model) values → MainStays (truths_at context values) [] before → is_kept (truths_at context values) before ≡ true
-    → IsUseFault context before n None → alone.use_fault o (is_in_own (kept (truths_at context values) before) n) (alone.declared_by (kept (truths_at context values) before)) n ≡ None
-use_fine context o values before n a h v m k u =
+use_fine : (context : NameContext) (o : alone.Outside) (values : List ℤ) (before : List Item) (n : ℕ) → AreOutside context o → StandOutside false None before → AreLevel [] 0 before → IsValid (plain context.model) values → MainStays (truths_at context values) [] before → is_kept (truths_at context values) before ≡ true
+    → IsUseFault context before n None → alone.use_fault o (is_in_own (kept (truths_at context values) before) n) (names_in_scope (kept (truths_at context values) before)) n ≡ None
+use_fine context o values before n a h l v m k u =
     let truths = truths_at context values in
-    ap (λ (opened : Option ℕ). alone.use_fault o (is_open n opened) (alone.declared_by (kept truths before)) n) (open_kept truths before h k)
-    ∙ ap (λ (ns : List ℕ). alone.use_fault o (is_in_own before n) ns n) (stays_declared truths before h m)
+    ap (λ (opened : Option ℕ). alone.use_fault o (is_open n opened) (names_in_scope (kept truths before)) n) (open_kept truths before h k)
+    ∙ ap (λ (ns : List ℕ). alone.use_fault o (is_in_own before n) ns n) (names_in_scope_kept truths before h m l)
     ∙ ap (λ (b : Bool). if b then None else Some (Undeclared None)) (known_use context o values before n a v u k)
 
 -- ---- a name that is declared
 
 -- no name is counted
-none_below : (n : ℕ) → nat_lt n 0 ≡ false
-none_below n = grind (arith, nat_tests)
+none_counted : (others count n : ℕ) → count ≡ 0 → alone.is_seventeenth others count n ≡ false
+none_counted others count n c = and_none (nat_eq n (others + 16)) (nat_lt 16 count) (ap (nat_lt 16) c)
+  where
+    and_none : (a b : Bool) → b ≡ false → (a && b) ≡ false
+    and_none true b e = e
+    and_none false b e = refl
 
-and_none : (a b : Bool) → b ≡ false → (a && b) ≡ false
-and_none true b e = e
-and_none false b e = refl
+no_limit : (o : alone.Outside) (n : ℕ) → o.variables ≡ 0 → o.locals ≡ 0 → o.constants ≡ 0 → alone.limit_fault o n ≡ None
+no_limit o n v l c =
+    ap (λ (b : Bool). if b || alone.is_seventeenth o.variables o.locals n then Some TooManyVariables else (if alone.is_seventeenth (o.variables + o.locals) o.constants n then Some TooManyConstants else None)) (none_counted 0 o.variables n v)
+    ∙ ap (λ (b : Bool). if b then Some TooManyVariables else (if alone.is_seventeenth (o.variables + o.locals) o.constants n then Some TooManyConstants else None)) (none_counted o.variables o.locals n l)
+    ∙ ap (λ (b : Bool). if b then Some TooManyConstants else None) (none_counted (o.variables + o.locals) o.constants n c)
 
-no_limit : (variables constants n : ℕ) (values : List ℕ) → variables ≡ 0 → constants ≡ 0 → alone.limit_fault (record { variables = variables; constants = constants; values = values }) n ≡ None
-no_limit variables constants n values v c =
-    let none : variables + constants ≡ 0 = omega arith in
-    ap (λ (b : Bool). if b then Some TooManyVariables else (if nat_eq n (variables + 16) && nat_lt n (variables + constants) then Some TooManyConstants else None)) (and_none (nat_eq n 16) (nat_lt n variables) (ap (nat_lt n) v ∙ none_below n))
-    ∙ ap (λ (b : Bool). if b then Some TooManyConstants else None) (and_none (nat_eq n (variables + 16)) (nat_lt n (variables + constants)) (ap (nat_lt n) none ∙ none_below n))
-
--- a declaration that stays is the first one
+-- where a declaration stays no other one is in scope
 not_declared_before : (context : NameContext) (before : List Item) (n : ℕ) (values : List ℤ) → IsDeclarationFault context before n None → IsValid (plain context.model) values → is_kept (truths_at context values) before ≡ true
-    → is_among n (declared_at (truths_at context values) before) ≡ false
+    → is_among n (in_scope_at (truths_at context values) before) ≡ false
 not_declared_before context before n values h v k =
-    sym (ap (λ (b : Bool). b && is_among n (declared_at (truths_at context values) before)) k)
+    sym (ap (λ (b : Bool). b && is_among n (in_scope_at (truths_at context values) before)) k)
     ∙ nowhere context.model (is_met_again context before n) Twice (new_name_fault context before n) values h v
 
-declaration_fine : (context : NameContext) (o : alone.Outside) (values : List ℤ) (before : List Item) (n : ℕ) → AreOutside context o → StandOutside false None before → IsValid (plain context.model) values → MainStays (truths_at context values) [] before → is_kept (truths_at context values) before ≡ true
-    → IsDeclarationFault context before n None → alone.declaration_fault o (alone.declared_by (kept (truths_at context values) before)) n ≡ None
-declaration_fine context o values before n a h v m k u =
+declaration_fine : (context : NameContext) (o : alone.Outside) (values : List ℤ) (before : List Item) (n : ℕ) → AreOutside context o → StandOutside false None before → AreLevel [] 0 before → IsValid (plain context.model) values → MainStays (truths_at context values) [] before → is_kept (truths_at context values) before ≡ true
+    → IsDeclarationFault context before n None → alone.declaration_fault o (names_in_scope (kept (truths_at context values) before)) n ≡ None
+declaration_fine context o values before n a h l v m k u =
     let truths = truths_at context values in
-    ap (λ (ns : List ℕ). alone.declaration_fault o ns n) (stays_declared truths before h m)
+    ap (λ (ns : List ℕ). alone.declaration_fault o ns n) (names_in_scope_kept truths before h m l)
     ∙ ap (λ (b : Bool). if b then Some (Twice None) else (if alone.has_value o n then Some FeatureInCode else alone.limit_fault o n)) (not_declared_before context before n values u v k)
     ∙ ap (λ (b : Bool). if b then Some FeatureInCode else alone.limit_fault o n) (a.values n ∙ no_value context n (no_feature_declared context before n u))
-    ∙ no_limit o.variables o.constants n o.values a.variables a.constants
+    ∙ no_limit o n a.variables a.locals a.constants
 
 -- ---- the next item
 
-name_next : (context : NameContext) (o : alone.Outside) (values : List ℤ) (before : List Item) (n : ℕ) → AreOutside context o → StandOutside false None before → IsValid (plain context.model) values → MainStays (truths_at context values) [] before → is_kept (truths_at context values) before ≡ true
+name_next : (context : NameContext) (o : alone.Outside) (values : List ℤ) (before : List Item) (n : ℕ) → AreOutside context o → StandOutside false None before → AreLevel [] 0 before → IsValid (plain context.model) values → MainStays (truths_at context values) [] before → is_kept (truths_at context values) before ≡ true
     → IsNameFault context before (signs.Name n) None → alone.name_fault o (kept (truths_at context values) before) (signs.Name n) ≡ None
-name_next context o values before n a h v m k f =
+name_next context o values before n a h l v m k f =
     let truths = truths_at context values in
-    let declared = alone.declared_by (kept truths before) in
-    ap (λ (b : Bool). if b then alone.use_fault o (is_in_own (kept truths before) n) declared n else alone.declaration_fault o declared n) (used_kept truths before h m k)
+    let scope = names_in_scope (kept truths before) in
+    ap (λ (b : Bool). if b then alone.use_fault o (is_in_own (kept truths before) n) scope n else alone.declaration_fault o scope n) (used_kept truths before h m k)
     ∙ elim (is_used_behind before) as (λ b. IsEither b (IsUseFault context before n None) (IsDeclarationFault context before n None)
-    → (if b then alone.use_fault o (is_in_own (kept (truths_at context values) before) n) (alone.declared_by (kept (truths_at context values) before)) n else alone.declaration_fault o (alone.declared_by (kept (truths_at context values) before)) n) ≡ None) [
-      | true ↦ λ u. use_fine context o values before n a h v m k u
-      | false ↦ λ u. declaration_fine context o values before n a h v m k u
+    → (if b then alone.use_fault o (is_in_own (kept (truths_at context values) before) n) (names_in_scope (kept (truths_at context values) before)) n else alone.declaration_fault o (names_in_scope (kept (truths_at context values) before)) n) ≡ None) [
+      | true ↦ λ u. use_fine context o values before n a h l v m k u
+      | false ↦ λ u. declaration_fine context o values before n a h l v m k u
     ] f
 
 -- a function that stays has no fault
@@ -132,9 +129,9 @@ abbrev pub AreCallsFine : alone.Outside → List Bool → List Item → Item →
 AreCallsFine o truths before x = (k : ℕ) → x.sign ≡ signs.Function k → stays_next truths before x ≡ true → alone.name_fault o (kept truths before) x.sign ≡ None
 
 -- so the next item has none, if it stays
-pub next : (context : NameContext) (o : alone.Outside) (values : List ℤ) (before : List Item) (x : Item) → AreOutside context o → StandOutside false None before → IsValid (plain context.model) values → MainStays (truths_at context values) [] before
+pub next : (context : NameContext) (o : alone.Outside) (values : List ℤ) (before : List Item) (x : Item) → AreOutside context o → StandOutside false None before → AreLevel [] 0 before → IsValid (plain context.model) values → MainStays (truths_at context values) [] before
     → IsNameFault context before x.sign None → AreCallsFine o (truths_at context values) before x → stays_next (truths_at context values) before x ≡ true → alone.name_fault o (kept (truths_at context values) before) x.sign ≡ None
-next context o values before x a h v m f c s =
+next context o values before x a h l v m f c s =
     let truths = truths_at context values in
     elim (names_this x.sign) [
       | inl e ↦ elim (function_this x.sign) [
@@ -142,5 +139,5 @@ next context o values before x a h v m f c s =
         | inr g ↦ c g.0 g.1 s
       ]
       | inr e ↦ ap (alone.name_fault o (kept truths before)) e.1
-          ∙ name_next context o values before e.0 a h v m (and_right (not (is_group x.sign)) (is_kept truths before) s) (subst (λ (t : Sign). IsNameFault context before t None) e.1 f)
+          ∙ name_next context o values before e.0 a h l v m (and_right (not (is_group x.sign)) (is_kept truths before) s) (subst (λ (t : Sign). IsNameFault context before t None) e.1 f)
     ]

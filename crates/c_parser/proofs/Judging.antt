@@ -1,11 +1,14 @@
 -- What is known of names behind one item more.
-use Rattle.std.proofs.Common.{◌≡◌, ℕ, Bool, true, false, List, [], ◌∷◌, ◌++◌, Option, None, refl, sym, ap, subst, ◌∙◌, append-nil}
+use Rattle.std.proofs.Common.{◌≡◌, ℕ, Bool, true, false, List, [], ◌∷◌, ◌++◌, Option, Some, None, refl, sym, ap, subst, ◌∙◌, append-nil}
 use Rattle.std.specs.Prelude.{◌||◌, ◌&&◌, not, if◌then◌else◌}
 use Rattle.fam_outer.specs.declared.faults.FileCode.{FileCode}
 use Rattle.c_grammar.specs.declared.items.Item.{Item}
 use Rattle.c_grammar.specs.declared.items.Sign.{Sign}
 use Rattle.c_grammar.specs.declared.items.Sign.TheVariants as signs
+use Rattle.c_grammar.specs.declared.scoped.Scoped.{Scoped}
 use Rattle.c_grammar.specs.Grammar.{at}
+use Rattle.c_grammar.specs.Scoped.{still}
+use Rattle.c_grammar.specs.Scopes.{names_in_scope}
 use Rattle.c_grammar.specs.Constants.{is_name}
 use Rattle.c_grammar.specs.Locals.{declares_behind, declarations_from, of_declarations, is_in_own}
 use Rattle.c_grammar.proofs.Declaring.{declarations_more}
@@ -14,7 +17,8 @@ use Rattle.c_parser.specs.declared.names.Known.{Known}
 use Rattle.c_grammar.specs.Functions.{is_void, is_equals, function_of, stands_behind, is_as_asked}
 use Rattle.c_parser.specs.declared.prototypes.Prototypes.{Prototypes}
 use Rattle.c_parser.specs.Names.{Outside, is_main, has_main, is_used_behind, name_of, names_of, declared_by, functions_by, declaration_fault, use_fault, unlike_fault, prototype_fault, uncallable_fault, call_fault, name_fault}
-use Rattle.c_parser.specs.Judging.{Declares, DeclaresAlike, ArePrototypes, JudgesFunction, IsKnown, Judges}
+use Rattle.c_parser.specs.Judging.{AreInScope, AreInScopeBehind, Declares, DeclaresAlike, ArePrototypes, JudgesFunction, IsKnown, Judges}
+use Rattle.c_parser.proofs.InScope.{elsewhere, used_in_scope, same_in_scope}
 use Rattle.c_parser.proofs.PrototypesBehind.{functions_behind, functions_still, functions_on}
 
 -- ---- what is declared
@@ -118,58 +122,75 @@ declared_valued before k old new main void fault e m v f b same d = record {
   };
 }
 
+-- ---- a name that is declared
+
+some_fault : (found : FileCode) → ◌≡◌ {A = Option FileCode} (Some found) None → ⊥
+some_fault found e = cc
+
+pub not_declared : (o : Outside) (before : List Item) (x : ℕ) (scope : List ℕ) (names : Scoped ℕ) (fault : Option FileCode) (found : FileCode) → AreInScope before names → scope ≡ still 0 names → fault ≡ declaration_fault o scope x → fault ≡ Some found → Declares o before x names (Some found)
+not_declared o before x scope names fault found h items is some = record {
+  fault_is = sym some ∙ is ∙ ap (λ (ns : List ℕ). declaration_fault o ns x) (items ∙ h.still_are 0);
+  added = λ none. absurd (some_fault found none);
+}
+
+pub now_declared : (o : Outside) (before : List Item) (x : ℕ) (scope : List ℕ) (old new : Scoped ℕ) (fault : Option FileCode) → AreInScope before old → scope ≡ still 0 old → fault ≡ declaration_fault o scope x → fault ≡ None → AreInScopeBehind before (signs.Name x) new → Declares o before x new None
+now_declared o before x scope old new fault h items is none added = record {
+  fault_is = sym none ∙ is ∙ ap (λ (ns : List ℕ). declaration_fault o ns x) (items ∙ h.still_are 0);
+  added = λ _. added;
+}
+
 -- ---- one item more
 
-pub at_main : (o : Outside) (before : List Item) (sign : Sign) (known : Known) → sign ≡ signs.Main → IsKnown before known → Judges o before sign (record { declared = known.declared; prototypes = known.prototypes; in_main = true }) None
-at_main o before sign known is k = subst (λ (s : Sign). Judges o before s (record { declared = known.declared; prototypes = known.prototypes; in_main = true }) None) (sym is) (record {
+pub at_main : (o : Outside) (before : List Item) (sign : Sign) (known : Known) (names : Scoped ℕ) → sign ≡ signs.Main → IsKnown before known → (is_name sign ≡ false → AreInScopeBehind before sign names)
+    → Judges o before sign (record { declared = names; prototypes = known.prototypes; in_main = true }) None
+at_main o before sign known names is k scope = subst (λ (s : Sign). (is_name s ≡ false → AreInScopeBehind before s names) → Judges o before s (record { declared = names; prototypes = known.prototypes; in_main = true }) None) (sym is) (λ f. record {
   fault_is = refl;
   known_is = λ _ p. record {
-    declared = k.declared ∙ sym (declared_still before (at p signs.Main) refl);
+    declared = f refl p;
     prototypes = no_function before (at p signs.Main) known.prototypes refl k.prototypes;
     main = sym (main_on before (at p signs.Main) ∙ or_true (has_main before));
   };
-})
+}) scope
 
-pub at_use : (o : Outside) (before : List Item) (sign : Sign) (known : Known) (x : ℕ) (used own : Bool) (fault : Option FileCode) → sign ≡ signs.Name x → used ≡ true → used ≡ is_used_behind before → own ≡ is_in_own before x → IsKnown before known → fault ≡ use_fault o own known.declared.items x
-    → Judges o before sign known fault
-at_use o before sign known x used own fault is e u w k f = subst (λ (s : Sign). Judges o before s known fault) (sym is) (record {
+pub at_use : (o : Outside) (before : List Item) (sign : Sign) (known : Known) (x : ℕ) (used own : Bool) (scope : List ℕ) (fault : Option FileCode) → sign ≡ signs.Name x → used ≡ true → used ≡ is_used_behind before → own ≡ is_in_own before x → IsKnown before known → scope ≡ still 0 known.declared
+    → fault ≡ use_fault o own scope x → Judges o before sign known fault
+at_use o before sign known x used own scope fault is e u w k items f = subst (λ (s : Sign). Judges o before s known fault) (sym is) (record {
   fault_is =
       f
-      ∙ ap (λ (b : Bool). use_fault o b known.declared.items x) w
-      ∙ ap (λ (ns : List ℕ). use_fault o (is_in_own before x) ns x) k.declared
-      ∙ ap (λ (b : Bool). if b then use_fault o (is_in_own before x) (declared_by before) x else declaration_fault o (declared_by before) x) (sym (sym u ∙ e));
+      ∙ ap (λ (b : Bool). use_fault o b scope x) w
+      ∙ ap (λ (ns : List ℕ). use_fault o (is_in_own before x) ns x) (items ∙ k.declared.still_are 0)
+      ∙ ap (λ (b : Bool). if b then use_fault o (is_in_own before x) (names_in_scope before) x else declaration_fault o (names_in_scope before) x) (sym (sym u ∙ e));
   known_is = λ _ p. record {
-    declared = k.declared ∙ sym (declared_behind before (at p (signs.Name x)) (sym u ∙ e));
+    declared = used_in_scope before p x known.declared (sym u ∙ e) k.declared;
     prototypes = no_function before (at p (signs.Name x)) known.prototypes refl k.prototypes;
     main = k.main ∙ sym (main_on before (at p (signs.Name x)) ∙ or_false (has_main before));
   };
 })
 
-pub at_declaration : (o : Outside) (before : List Item) (sign : Sign) (known new : Known) (x : ℕ) (used : Bool) (fault : Option FileCode) → sign ≡ signs.Name x → used ≡ false → used ≡ is_used_behind before → new.in_main ≡ known.in_main → new.prototypes ≡ known.prototypes → IsKnown before known → Declares o known.declared.items x new.declared.items fault → Judges o before sign new fault
+pub at_declaration : (o : Outside) (before : List Item) (sign : Sign) (known new : Known) (x : ℕ) (used : Bool) (fault : Option FileCode) → sign ≡ signs.Name x → used ≡ false → used ≡ is_used_behind before → new.in_main ≡ known.in_main → new.prototypes ≡ known.prototypes → IsKnown before known → Declares o before x new.declared fault → Judges o before sign new fault
 at_declaration o before sign known new x used fault is e u same others k d = subst (λ (s : Sign). Judges o before s new fault) (sym is) (record {
   fault_is =
       d.fault_is
-      ∙ ap (λ (ns : List ℕ). declaration_fault o ns x) k.declared
-      ∙ ap (λ (b : Bool). if b then use_fault o (is_in_own before x) (declared_by before) x else declaration_fault o (declared_by before) x) (sym (sym u ∙ e));
+      ∙ ap (λ (b : Bool). if b then use_fault o (is_in_own before x) (names_in_scope before) x else declaration_fault o (names_in_scope before) x) (sym (sym u ∙ e));
   known_is = λ none p. record {
-    declared = d.added none ∙ ap (λ (ns : List ℕ). ns ++ x ∷ []) k.declared ∙ sym (declared_on before (at p (signs.Name x)) (sym u ∙ e));
+    declared = d.added none p;
     prototypes = subst (ArePrototypes (before ++ at p (signs.Name x) ∷ [])) (sym others) (no_function before (at p (signs.Name x)) known.prototypes refl k.prototypes);
     main = same ∙ k.main ∙ sym (main_on before (at p (signs.Name x)) ∙ or_false (has_main before));
   };
 })
 
-pub at_function : (o : Outside) (before : List Item) (sign : Sign) (known new : Known) (x : ℕ) (fault : Option FileCode) → sign ≡ signs.Function x → new.declared.items ≡ known.declared.items → new.in_main ≡ known.in_main → IsKnown before known → JudgesFunction before x new.prototypes fault → Judges o before sign new fault
+pub at_function : (o : Outside) (before : List Item) (sign : Sign) (known new : Known) (x : ℕ) (fault : Option FileCode) → sign ≡ signs.Function x → new.declared ≡ known.declared → new.in_main ≡ known.in_main → IsKnown before known → JudgesFunction before x new.prototypes fault → Judges o before sign new fault
 at_function o before sign known new x fault is names same k f = subst (λ (s : Sign). Judges o before s new fault) (sym is) (record {
   fault_is = f.fault_is;
   known_is = λ none p. record {
-    declared = names ∙ k.declared ∙ sym (declared_still before (at p (signs.Function x)) refl);
+    declared = subst (AreInScope (before ++ at p (signs.Function x) ∷ [])) (sym names) (same_in_scope before (signs.Function x) known.declared refl (elsewhere (signs.Function x) (has_main before) (λ bad. cc) (λ bad. cc) (λ bad. cc)) k.declared p);
     prototypes = f.prototypes_are none p;
     main = same ∙ k.main ∙ sym (main_on before (at p (signs.Function x)) ∙ or_false (has_main before));
   };
 })
 
 pub record IsOther (sign : Sign) : Type 0 where
-  pub names_none : name_of sign ≡ []
+  pub is_no_name : is_name sign ≡ false
   pub functions_none : function_of sign ≡ []
   pub is_no_main : is_main sign ≡ false
   pub has_no_fault : (o : Outside) (before : List Item) → name_fault o before sign ≡ None
@@ -178,13 +199,14 @@ pub other_sign : (sign : Sign) → ((x : ℕ) → sign ≡ signs.Name x → ⊥)
 other_sign (signs.Name x) n m f = absurd (n x refl)
 other_sign signs.Main n m f = absurd (m refl)
 other_sign (signs.Function x) n m f = absurd (f x refl)
-other_sign _ n m f = record { names_none = refl; functions_none = refl; is_no_main = refl; has_no_fault = λ o before. refl }
+other_sign _ n m f = record { is_no_name = refl; functions_none = refl; is_no_main = refl; has_no_fault = λ o before. refl }
 
-pub at_other : (o : Outside) (before : List Item) (sign : Sign) (known : Known) → IsOther sign → IsKnown before known → Judges o before sign known None
-at_other o before sign known other k = record {
+pub at_other : (o : Outside) (before : List Item) (sign : Sign) (known : Known) (names : Scoped ℕ) → IsOther sign → IsKnown before known → (is_name sign ≡ false → AreInScopeBehind before sign names)
+    → Judges o before sign (record { declared = names; prototypes = known.prototypes; in_main = known.in_main }) None
+at_other o before sign known names other k scope = record {
   fault_is = sym (other.has_no_fault o before);
   known_is = λ _ p. record {
-    declared = k.declared ∙ sym (declared_still before (at p sign) other.names_none);
+    declared = scope other.is_no_name p;
     prototypes = no_function before (at p sign) known.prototypes other.functions_none k.prototypes;
     main = k.main ∙ sym (main_on before (at p sign) ∙ ap (λ (b : Bool). has_main before || b) other.is_no_main ∙ or_false (has_main before));
   };

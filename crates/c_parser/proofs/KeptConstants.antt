@@ -19,10 +19,12 @@ use Rattle.c_grammar.specs.Constants.{is_name, is_constant, kind_behind, constan
 use Rattle.c_grammar.specs.Grammar.{is_group}
 use Rattle.c_grammar.specs.Kept.{directive_of, kept_from, kept}
 use Rattle.c_grammar.specs.Locals.{is_declaring, open_behind, AreOutside as StandOutside}
-use Rattle.family_names.specs.Names.{NameContext, truths_at, is_main, has_main, names_of, declared_by, constants_at, is_among, is_kept, is_value, is_met_constant, IsEither, IsChangeOf, IsChangeFault}
+use Rattle.c_grammar.specs.Scopes.{names_in_scope, begun_behind, depth_behind, AreLevel}
+use Rattle.family_names.specs.Names.{NameContext, truths_at, is_main, has_main, names_of, constants_at, is_among, is_kept, is_value, is_met_constant, IsEither, IsChangeOf, IsChangeFault}
 use Rattle.family_names.proofs.Holding.{left_out}
 use Rattle.c_parser.specs.Names as alone
-use Rattle.c_parser.proofs.KeptNames.{AreOutside, MainStays, has_main_kept, declared_alone, no_declarer, open_kept, declarations_kept, nowhere}
+use Rattle.c_parser.proofs.KeptNames.{AreOutside, MainStays, has_main_kept, no_declarer, open_kept, nowhere}
+use Rattle.c_parser.proofs.KeptScopes.{name_gone, scope_kept}
 use Rattle.c_parser.proofs.KeptStates.{both_ways, AreLike, like_next, no_join, KnowNothing, known_behind, known_same, by_last, by_out, right, either}
 pub use Rattle.c_parser.proofs.KeptStates.{same_sections}
 
@@ -173,11 +175,27 @@ no_declarer_left kind joins here all (x ∷ xs) h d same =
       | false ↦ λ e. no_declarer_left later (is_joining x.sign) here now xs h.1 d.1 (λ j. absurd (both_ways (is_joining x.sign) (ap is_joining (left_out (is_constant kind) x.sign e).1) j))
     ] refl
 
-pub constants_alone : (truths : List Bool) (before : List Item) → AreApart kinds.Variable false before → StandOutside false None before → MainStays truths [] before → alone.constants_by (kept truths before) ≡ constants_at truths before
-constants_alone truths before a h m =
-    declared_alone (of_constants (kept truths before))
-    ∙ ap declared_by (constants_kept truths [] kinds.Variable kinds.Variable before (no_constant kinds.Variable false before a) (record { kept = λ _. refl; gone = λ _. refl }))
-    ∙ ap names_of (declarations_kept truths (of_constants before) (no_declarer_left kinds.Variable false false false before a (no_declarer false None before h) (λ _. refl)) (main_of_constants truths [] kinds.Variable before m))
+-- without the names of variables the braces are as level
+level_constants : (begun : List ℕ) (depth : ℕ) (kind : NameKind) (items : List Item) → AreLevel begun depth items → AreLevel begun depth (constants_from kind items)
+level_constants begun depth kind [] h = tt
+level_constants begun depth kind (x ∷ xs) h =
+    let rest = level_constants (begun_behind begun depth x.sign) (depth_behind depth x.sign) (kind_behind kind x.sign) xs h.1 in
+    let more = constants_from (kind_behind kind x.sign) xs in
+    elim (is_constant kind || not (is_name x.sign)) as (λ t. (is_constant kind || not (is_name x.sign)) ≡ t → AreLevel begun depth (if t then x ∷ constants_from (kind_behind kind x.sign) xs else constants_from (kind_behind kind x.sign) xs)) [
+      | true ↦ λ e. (h.0, rest)
+      | false ↦ λ e. name_gone begun depth x.sign more (name_left (is_constant kind) (is_name x.sign) e) rest
+    ] refl
+  where
+    name_left : (a b : Bool) → (a || not b) ≡ false → b ≡ true
+    name_left true b e = absurd cc
+    name_left false true e = refl
+    name_left false false e = absurd cc
+
+-- behind items whose braces are level the constants in scope of what stays are those in scope that stay
+pub constants_in_scope_kept : (truths : List Bool) (before : List Item) → AreApart kinds.Variable false before → StandOutside false None before → MainStays truths [] before → AreLevel [] 0 before → alone.constants_in_scope (kept truths before) ≡ constants_at truths before
+constants_in_scope_kept truths before a h m l =
+    ap names_in_scope (constants_kept truths [] kinds.Variable kinds.Variable before (no_constant kinds.Variable false before a) (record { kept = λ _. refl; gone = λ _. refl }))
+    ∙ ap names_of (scope_kept truths (of_constants before) (no_declarer_left kinds.Variable false false false before a (no_declarer false None before h) (λ _. refl)) (main_of_constants truths [] kinds.Variable before m) (level_constants [] 0 kinds.Variable before l))
 
 -- ---- a change without a fault
 
@@ -198,13 +216,13 @@ by_change context o values before None a v k d = refl
 by_change context o values before (Some change) a v k d = not_constant (o.values ++ constants_at (truths_at context values) before) change
     (unchanged context o values before change.0 a k (nowhere context.model (is_met_constant context before change.0) (λ example. ChangedConstant) None values d v))
 
-pub change_fine : (context : NameContext) (o : alone.Outside) (values : List ℤ) (before : List Item) (x : Item) → AreOutside context o → AreApart kinds.Variable false before → StandOutside false None before → IsValid (plain context.model) values → MainStays (truths_at context values) [] before
+pub change_fine : (context : NameContext) (o : alone.Outside) (values : List ℤ) (before : List Item) (x : Item) → AreOutside context o → AreApart kinds.Variable false before → StandOutside false None before → AreLevel [] 0 before → IsValid (plain context.model) values → MainStays (truths_at context values) [] before
     → IsChangeFault context before x None → is_kept (truths_at context values) before ≡ true → alone.change_fault o (kept (truths_at context values) before) x ≡ None
-change_fine context o values before x out a h v m c k =
+change_fine context o values before x out a h l v m c k =
     let truths = truths_at context values in
-    ap (λ (b : Bool). if b then alone.constant_fault (o.values ++ alone.constants_by (kept truths before)) (changed_at (kept truths before) x) else None) (has_main_kept truths [] before m)
-    ∙ (elim (has_main before) as (λ b. IsEither b (IsChangeOf context before (changed_at before x) None) (◌≡◌ {A = Option FileCode} None None) → (if b then alone.constant_fault (o.values ++ alone.constants_by (kept (truths_at context values) before)) (changed_at (kept (truths_at context values) before) x) else None) ≡ None) [
-      | true ↦ λ d. ap (λ (ns : List ℕ). alone.constant_fault (o.values ++ ns) (changed_at (kept truths before) x)) (constants_alone truths before a h m)
+    ap (λ (b : Bool). if b then alone.constant_fault (o.values ++ alone.constants_in_scope (kept truths before)) (changed_at (kept truths before) x) else None) (has_main_kept truths [] before m)
+    ∙ (elim (has_main before) as (λ b. IsEither b (IsChangeOf context before (changed_at before x) None) (◌≡◌ {A = Option FileCode} None None) → (if b then alone.constant_fault (o.values ++ alone.constants_in_scope (kept (truths_at context values) before)) (changed_at (kept (truths_at context values) before) x) else None) ≡ None) [
+      | true ↦ λ d. ap (λ (ns : List ℕ). alone.constant_fault (o.values ++ ns) (changed_at (kept truths before) x)) (constants_in_scope_kept truths before a h m l)
           ∙ ap (alone.constant_fault (o.values ++ constants_at truths before)) (changes_kept truths before x a h k) ∙ by_change context o values before (changed_at before x) out v k d
       | false ↦ λ d. refl
     ] c)

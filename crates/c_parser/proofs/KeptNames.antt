@@ -18,23 +18,10 @@ use Rattle.c_grammar.specs.Constants.{is_name}
 use Rattle.c_grammar.specs.Grammar.{is_group}
 use Rattle.c_grammar.specs.Kept.{directive_of, kept_from, kept}
 use Rattle.c_grammar.specs.Locals.{is_declaring, declares_behind, declarations_from, of_declarations, opened_by, open_from, open_behind, AreOutside as StandOutside, IsOutside}
-use Rattle.family_names.specs.Names.{NameContext, is_main, has_main, until_main, name_of, names_of, declared_by, declared_at, sections_behind, is_kept, is_feature_name, is_feature, feature_in, named_feature, is_integer, is_value, is_used_behind, IsWithFirst, IsEither, code_with}
+use Rattle.family_names.specs.Names.{NameContext, is_main, has_main, until_main, name_of, names_of, sections_behind, is_kept, is_feature_name, is_feature, feature_in, named_feature, is_integer, is_value, is_used_behind, IsWithFirst, IsEither, code_with}
 use Rattle.c_parser.specs.Names as alone
 use Rattle.c_parser.proofs.AmongNumbers.{neither}
 use Rattle.c_parser.proofs.KeptStates.{both_ways, AreLike, like_next, AreOthers, KnowNothing, known_behind, known_same, by_last, stands_kept, by_out, right, either}
-
--- ---- the names of a file without groups are those of the same items
-
-names_alone : (xs : List Item) → alone.names_of xs ≡ names_of xs
-names_alone [] = refl
-names_alone (x ∷ xs) = ap (λ (ns : List ℕ). ns ++ alone.names_of xs) (name_same x.sign) ∙ ap (λ (ns : List ℕ). name_of x.sign ++ ns) (names_alone xs)
-  where
-    name_same : (s : Sign) → alone.name_of s ≡ name_of s
-    name_same (signs.Name n) = refl
-    name_same _ = refl
-
-pub declared_alone : (xs : List Item) → alone.declared_by xs ≡ declared_by xs
-declared_alone xs = names_alone (of_declarations xs)
 
 -- ---- the items that stay, one after another
 
@@ -163,16 +150,16 @@ used_kept truths before h m k =
 -- ---- the names that what stays declares
 
 -- the first `main` stays, unless it stands before these items
-abbrev MainIs : Bool → List Bool → List Section → List Item → Type 0
+abbrev pub MainIs : Bool → List Bool → List Section → List Item → Type 0
 MainIs main truths ss items = IsEither main (Unit {0}) (MainStays truths ss items)
 
-main_next : (main : Bool) (truths : List Bool) (ss : List Section) (x : Item) (xs : List Item) → MainIs main truths ss (x ∷ xs) → MainIs (main || is_main x.sign) truths (sections_after truths ss (directive_of x.sign)) xs
+pub main_next : (main : Bool) (truths : List Bool) (ss : List Section) (x : Item) (xs : List Item) → MainIs main truths ss (x ∷ xs) → MainIs (main || is_main x.sign) truths (sections_after truths ss (directive_of x.sign)) xs
 main_next true truths ss x xs h = tt
 main_next false truths ss x xs h =
     elim (is_main x.sign) as (λ b. IsEither b (all_kept ss ≡ true) (MainStays truths (sections_after truths ss (directive_of x.sign)) xs) → MainIs b truths (sections_after truths ss (directive_of x.sign)) xs) [ true ↦ λ _. tt | false ↦ λ k. k ] h
 
 -- what goes is not the first `main`
-main_gone : (main : Bool) (truths : List Bool) (ss : List Section) (x : Item) (xs : List Item) → MainIs main truths ss (x ∷ xs) → (not (is_group x.sign) && all_kept ss) ≡ false → (main || is_main x.sign) ≡ main
+pub main_gone : (main : Bool) (truths : List Bool) (ss : List Section) (x : Item) (xs : List Item) → MainIs main truths ss (x ∷ xs) → (not (is_group x.sign) && all_kept ss) ≡ false → (main || is_main x.sign) ≡ main
 main_gone true truths ss x xs h g = refl
 main_gone false truths ss x xs h g =
     elim (is_main x.sign) as (λ b. is_main x.sign ≡ b → IsEither b (all_kept ss ≡ true) (MainStays truths (sections_after truths ss (directive_of x.sign)) xs) → b ≡ false) [
@@ -213,9 +200,6 @@ from_kept truths ss main here all (x ∷ xs) m h l =
 pub declarations_kept : (truths : List Bool) (items : List Item) → KnowNothing (by_last is_declaring) false false items → MainStays truths [] items → of_declarations (kept truths items) ≡ kept truths (of_declarations items)
 declarations_kept truths items h m = from_kept truths [] false false false items m h (record { kept = λ _. refl; gone = λ _. refl })
 
-pub declared_kept : (truths : List Bool) (before : List Item) → StandOutside false None before → MainStays truths [] before → declared_by (kept truths before) ≡ declared_at truths before
-declared_kept truths before h m = ap names_of (declarations_kept truths before (no_declarer false None before h) m)
-
 -- ---- where no fault is found
 
 first_none : (code : Option (List ℤ) → FileCode) (other : Option FileCode) (found : Option Config) → None ≡ code_with code other found → found ≡ None
@@ -237,6 +221,7 @@ not_false false e = absurd cc
 -- the names with values from outside are those of the features that code may use as values; none are counted
 pub record AreOutside (context : NameContext) (o : alone.Outside) : Type 0 where
   pub variables : o.variables ≡ 0
+  pub locals : o.locals ≡ 0
   pub constants : o.constants ≡ 0
   pub values : (n : ℕ) → alone.has_value o n ≡ is_value context n
 

@@ -169,7 +169,7 @@ locals_first gs w (last_local p {ts} d) = ap (from_here true) (append_assoc ts (
 locals_first gs w (next_local p {ts} {us} d v) =
     ap (from_here true) (append_assoc ts (at p signs.Comma ∷ us) w) ∙ local_first (at p signs.Comma ∷ (us ++ w)) d ∙ ap (λ (ns : List ℕ). local_name d ∷ ns) (locals_first gs w v)
 
-stretch_first : {later : Bool} {gs : List Guard} {ts : List Item} {ds cs : List Declared} (w : List Item) → Stretch later gs ts ds cs → from_here false (ts ++ w) ≡ targets ds ++ from_here false w
+stretch_first : {later : Bool} {gs : List Guard} {ts : List Item} {ds : List Declared} (w : List Item) → Stretch later gs ts ds → from_here false (ts ++ w) ≡ targets ds ++ from_here false w
 stretch_first w (calm gs ts h) = calm_skipped ts w h
 stretch_first w (behind gs ts {us} h s) = ap (from_here false) (append_assoc ts us w) ∙ calm_skipped ts (us ++ w) h ∙ stretch_first w s
 stretch_first w (before gs us {ts} {ds} s h) = ap (from_here false) (append_assoc ts us w) ∙ stretch_first (us ++ w) s ∙ ap (λ (ns : List ℕ). targets ds ++ ns) (calm_skipped us w h)

@@ -94,7 +94,7 @@ names_given functions limits includes given bytes among l are none =
 
 -- no name is counted
 abbrev uncounted : Limits
-uncounted = record { variables = 0; constants = 0 }
+uncounted = record { variables = 0; locals = 0; constants = 0 }
 
 pub has_given : (functions : List (List ℕ)) (includes : Includes) (given : List (List ℕ)) (bytes : List ℕ) (r : Result Program FileRefusal) → DeclaresAmong includes functions given bytes → IsReadOver includes (only_names functions given) bytes r → IfOk r (λ p. (whole p).names ≡ given)
 has_given functions includes given bytes (Ok p) among a =

@@ -1,6 +1,6 @@
 -- The names of a program that is read over its file's own names are those that the file declares, and there are few.
 use Rattle.std.proofs.Common.{◌≡◌, ℕ, ◌+◌, ◌≤◌, ◌<◌, Bool, true, false, List, [], ◌∷◌, ◌++◌, length, get_or, Option, Some, None, Result, Ok, Err, refl, sym, ap, subst, ◌∙◌, append_assoc, append-nil, arith, inl}
-use Rattle.std.specs.Prelude.{nat_eq, nat_lt, if◌then◌else◌, ◌&&◌, IfOk}
+use Rattle.std.specs.Prelude.{nat_eq, nat_lt, if◌then◌else◌, ◌&&◌, ◌||◌, IfOk}
 use Rattle.std.specs.List.{list_any}
 use Rattle.std.specs.Str.{bytes_eq}
 use Rattle.std.proofs.lemmas.Bool.{eq-eqb}
@@ -32,11 +32,11 @@ use Rattle.c_parser.specs.Signs.{keyword_of}
 use Rattle.c_parser.specs.Functions.{functions_of_bytes}
 use Rattle.c_parser.specs.Items.{Listed, is_function, number_in, with_name, names_with_identifier, names_with_word, names_with, names_from, lexeme_in, items_over, listed, AreNewBehind, AreDistinct}
 use Rattle.c_parser.specs.Judging.{counted}
-use Rattle.c_parser.specs.Names.{declared_by, first_name_fault, limit_fault, names_at, each_once}
-use Rattle.c_parser.specs.Order.{variables_of, constants_of, arranged}
+use Rattle.c_parser.specs.Names.{declared_by, first_name_fault, is_seventeenth, limit_fault, names_at, each_once}
+use Rattle.c_parser.specs.Order.{variables_of, locals_of, constants_of, arranged}
 use Rattle.c_parser.specs.Reading.{Given, code_of_file, items_of_code, items_of, outside, own, own_names, IsPlainRead, IsRead, IsReadOver, AreDeclaredNames}
 use Rattle.c_parser.specs.Stages.{IsOwn, list, listed_in}
-use Rattle.c_parser.proofs.Arranging.{text_same, arranged_distinct, arranged_among, arranged_length}
+use Rattle.c_parser.proofs.Arranging.{text_same, each_among, arranged_distinct, arranged_among, arranged_length}
 use Rattle.c_parser.proofs.LocalDeclarations.{declared_all}
 use Rattle.c_parser.proofs.Declared.{AreTold, names_from_declared}
 use Rattle.c_parser.proofs.Growing.{with_token}
@@ -46,11 +46,6 @@ use Rattle.c_parser.proofs.Overs.{listed_ok, no_list, same_listed, stands_anew, 
 use Rattle.c_parser.proofs.Renumbering.{fit_anew, listed_anew, renumbered}
 
 -- ---- distinct names
-
-all_new : (seen names : List (List ℕ)) → AreNewBehind seen names → each_once seen names ≡ seen ++ names
-all_new seen [] h = sym (append-nil seen)
-all_new seen (n ∷ ns) h =
-    ap (λ (b : Bool). each_once (if b then seen else seen ++ n ∷ []) ns) h.0 ∙ all_new (seen ++ n ∷ []) ns h.1 ∙ append_assoc seen (n ∷ []) ns
 
 new_last : (seen names : List (List ℕ)) (w : List ℕ) → AreNewBehind seen names → list_any (bytes_eq w) (seen ++ names) ≡ false → AreNewBehind seen (names ++ w ∷ [])
 new_last seen [] w h e = (ap (list_any (bytes_eq w)) (sym (append-nil seen)) ∙ e, tt)
@@ -87,7 +82,7 @@ grows_by_few functions text names (t ∷ ts) = omega (arith, (with_token functio
 -- ---- the names of a file in their order, which are counted
 
 abbrev pub limits_of : Listed → Limits
-limits_of first = record { variables = length (variables_of [] first); constants = length (constants_of [] first) }
+limits_of first = record { variables = length (variables_of [] first); locals = length (locals_of [] first); constants = length (constants_of [] first) }
 
 -- without a fault, the items over them declare those of the text in their order
 told_over : (functions : List (List ℕ)) → TokenLaws → (first : Listed) (code : List ℕ) (ts : List Token) → tokens_of code ≡ Ok ts → first.names ≡ names_from functions code [] ts → AreDistinct first.names → first_name_fault (counted (limits_of first)) (items_over functions (arranged [] first) code ts) ≡ None
@@ -95,7 +90,7 @@ told_over : (functions : List (List ℕ)) → TokenLaws → (first : Listed) (co
 unfolding first_name_fault
 told_over functions laws first code ts is names distinct none =
     subst (λ (ns : List (List ℕ)). AreTold (limits_of first) (arranged [] first) ns (items_over functions (arranged [] first) code ts)) (sym names)
-    (names_from_declared functions (limits_of first) (arranged [] first) (arranged_distinct [] first distinct) code [] ts [] (fit_anew functions laws [] first code ts is distinct names) (record { told = refl; each = λ x e. absurd cc }) none)
+    (names_from_declared functions (limits_of first) (arranged [] first) code [] ts [] (fit_anew functions laws [] first code ts is distinct names) (record { told = refl; each = λ x e. absurd cc }) none)
 
 -- so none of them is one too many
 none_too_many : (limits : Limits) (first : Listed) (items : List Item) → AreDistinct first.names → AreTold limits (arranged [] first) first.names items → (x : ℕ) → x < length (arranged [] first) → limit_fault (counted limits) x ≡ None
@@ -103,28 +98,27 @@ none_too_many limits first items distinct h x lt =
     let w = get_or (arranged [] first) x [] in
     let apart : AreDistinct (arranged [] first) = arranged_distinct [] first distinct in
     let here : list_any (bytes_eq w) (arranged [] first) ≡ true = list_any_at (bytes_eq w) (arranged [] first) x [] lt (text_same w) in
-    let there : list_any (bytes_eq w) (names_at (arranged [] first) (declared_by items)) ≡ true = ap (list_any (bytes_eq w)) h.told ∙ sym (arranged_among [] first distinct w) ∙ here in
+    let there : list_any (bytes_eq w) (names_at (arranged [] first) (declared_by items)) ≡ true =
+    sym (each_among w [] (names_at (arranged [] first) (declared_by items))) ∙ ap (list_any (bytes_eq w)) h.told ∙ sym (arranged_among [] first distinct w) ∙ here in
     let among : list_any (nat_eq (number_in (arranged [] first) w)) (declared_by items) ≡ true = number_among (arranged [] first) (declared_by items) w apart (λ y e. (h.each y e).below) there in
     (h.each x (subst (λ (y : ℕ). list_any (nat_eq y) (declared_by items) ≡ true) (number_at (arranged [] first) x apart lt) among)).within
 
 -- ---- how many there are then
 
-abbrev limit_if : Bool → Bool → Bool → Bool → Option FileCode
-limit_if a b c d = if a && b then Some TooManyVariables else (if c && d then Some TooManyConstants else None)
+abbrev limit_if : Bool → Bool → Bool → Option FileCode
+limit_if a b c = if a || b then Some TooManyVariables else (if c then Some TooManyConstants else None)
 
-no_variable : (a b c d : Bool) → limit_if a b c d ≡ None → a ≡ true → b ≡ false
-no_variable true true c d h e = absurd cc
-no_variable true false c d h e = refl
-no_variable false b c d h e = absurd cc
+-- the name is the 17th of no class
+none_of_three : (a b c : Bool) → limit_if a b c ≡ None → (a ≡ false) × ((b ≡ false) × (c ≡ false))
+none_of_three true b c h = absurd cc
+none_of_three false true c h = absurd cc
+none_of_three false false true h = absurd cc
+none_of_three false false false h = (refl, (refl, refl))
 
-no_constant : (a b c d : Bool) → limit_if a b c d ≡ None → c ≡ true → d ≡ false
-no_constant true true c d h e = absurd cc
-no_constant true false true true h e = absurd cc
-no_constant true false true false h e = refl
-no_constant true false false d h e = absurd cc
-no_constant false b true true h e = absurd cc
-no_constant false b true false h e = refl
-no_constant false b false d h e = absurd cc
+no_seventeenth : (limits : Limits) (x : ℕ) → limit_fault (counted limits) x ≡ None
+    → (is_seventeenth 0 limits.variables x ≡ false) × ((is_seventeenth limits.variables limits.locals x ≡ false) × (is_seventeenth (limits.variables + limits.locals) limits.constants x ≡ false))
+no_seventeenth limits x h =
+    none_of_three (is_seventeenth 0 limits.variables x) (is_seventeenth limits.variables limits.locals x) (is_seventeenth (limits.variables + limits.locals) limits.constants x) h
 
 below : (m n : ℕ) → nat_lt m n ≡ true → m < n
 below m n e = grind (arith, nat_tests)
@@ -132,34 +126,35 @@ below m n e = grind (arith, nat_tests)
 not_below : (m n : ℕ) → nat_lt m n ≡ false → n ≤ m
 not_below m n e = grind (arith, nat_tests)
 
-few_variables : (limits : Limits) → (16 < limits.variables → limit_fault (counted limits) 16 ≡ None) → limits.variables ≤ 16
-few_variables limits h = elim (nat_lt 16 limits.variables) as (λ b. nat_lt 16 limits.variables ≡ b → limits.variables ≤ 16) [
-  | true ↦ λ e. not_below 16 limits.variables (no_variable (nat_eq 16 16) (nat_lt 16 limits.variables) (nat_eq 16 (limits.variables + 16)) (nat_lt 16 (limits.variables + limits.constants)) (h (below 16 limits.variables e)) (eq-eqb 16 16 refl))
-  | false ↦ λ e. not_below 16 limits.variables e
+second_false : (a b : Bool) → a ≡ true → (a && b) ≡ false → b ≡ false
+second_false true b e h = h
+second_false false b e h = absurd cc
+
+-- behind so many others there are at most 16, where the 17th is none of them
+few_behind : (others count : ℕ) → (16 < count → is_seventeenth others count (others + 16) ≡ false) → count ≤ 16
+few_behind others count h = elim (nat_lt 16 count) as (λ b. nat_lt 16 count ≡ b → count ≤ 16) [
+  | true ↦ λ e. not_below 16 count (second_false (nat_eq (others + 16) (others + 16)) (nat_lt 16 count) (eq-eqb (others + 16) (others + 16) refl) (h (below 16 count e)))
+  | false ↦ λ e. not_below 16 count e
 ] refl
 
-few_constants : (limits : Limits) → (limits.variables + 16 < limits.variables + limits.constants → limit_fault (counted limits) (limits.variables + 16) ≡ None) → limits.variables + limits.constants ≤ limits.variables + 16
-few_constants limits h =
-    let x : ℕ = limits.variables + 16 in
-    let all : ℕ = limits.variables + limits.constants in
-    elim (nat_lt x all) as (λ b. nat_lt x all ≡ b → all ≤ x) [
-      | true ↦ λ e. not_below x all (no_constant (nat_eq x 16) (nat_lt x limits.variables) (nat_eq x x) (nat_lt x all) (h (below x all e)) (eq-eqb x x refl))
-      | false ↦ λ e. not_below x all e
-    ] refl
-
--- the names are the variables and the constants
-counted_length : (first : Listed) → length (arranged [] first) ≡ length (variables_of [] first) + length (constants_of [] first)
+-- the names are those of the three classes
+counted_length : (first : Listed) → length (arranged [] first) ≡ (length (variables_of [] first) + length (locals_of [] first)) + length (constants_of [] first)
 counted_length first =
-    ap length (append-nil (names_at first.names (variables_of [] first ++ constants_of [] first)))
-    ∙ length-map (variables_of [] first ++ constants_of [] first) (λ (x : ℕ). get_or first.names x [])
-    ∙ length-append (variables_of [] first) (constants_of [] first)
+    let all : length (arranged [] first) ≡ length (variables_of [] first ++ (locals_of [] first ++ constants_of [] first)) =
+    ap length (append-nil (names_at first.names (variables_of [] first ++ (locals_of [] first ++ constants_of [] first))))
+    ∙ length-map (variables_of [] first ++ (locals_of [] first ++ constants_of [] first)) (λ (x : ℕ). get_or first.names x []) in
+    omega (arith, all, length-append (variables_of [] first) (locals_of [] first ++ constants_of [] first), length-append (locals_of [] first) (constants_of [] first))
 
-few_names : (first : Listed) → ((x : ℕ) → x < length (arranged [] first) → limit_fault (counted (limits_of first)) x ≡ None) → length (arranged [] first) ≤ 32
+few_names : (first : Listed) → ((x : ℕ) → x < length (arranged [] first) → limit_fault (counted (limits_of first)) x ≡ None) → length (arranged [] first) ≤ 48
 few_names first h =
+    let variables = length (variables_of [] first) in
+    let locals = length (locals_of [] first) in
+    let constants = length (constants_of [] first) in
     let count = counted_length first in
-    let v = few_variables (limits_of first) (λ lt. h 16 (omega (arith, lt, count))) in
-    let c = few_constants (limits_of first) (λ lt. h (length (variables_of [] first) + 16) (omega (arith, lt, count))) in
-    omega (arith, count, v, c)
+    let v = few_behind 0 variables (λ lt. (no_seventeenth (limits_of first) (0 + 16) (h (0 + 16) (omega (arith, lt, count)))).0) in
+    let o = few_behind variables locals (λ lt. (no_seventeenth (limits_of first) (variables + 16) (h (variables + 16) (omega (arith, lt, count)))).1.0) in
+    let c = few_behind (variables + locals) constants (λ lt. (no_seventeenth (limits_of first) ((variables + locals) + 16) (h ((variables + locals) + 16) (omega (arith, lt, count)))).1.1) in
+    omega (arith, count, v, o, c)
 
 -- ---- a file without a fault of a name
 
@@ -179,10 +174,9 @@ refused_over includes bytes fault functions others e = no_code_over functions ot
 pub record IsOwnList (includes : Includes) (bytes : List ℕ) (l : Listed) : Type 0 where
   pub first : Listed
   pub first_are : items_of includes (functions_of_bytes bytes) [] bytes ≡ Ok first
-  pub distinct : AreDistinct first.names
   pub names : l.names ≡ arranged [] first
-  pub told : names_at l.names (declared_by l.items) ≡ first.names
-  pub few : length l.names ≤ 32
+  pub told : each_once [] (names_at l.names (declared_by l.items)) ≡ first.names
+  pub few : length l.names ≤ 48
 
 own_list : TokenLaws → (includes : Includes) (bytes : List ℕ) (x : Result Listed (FileCode × Place)) → items_of includes (functions_of_bytes bytes) [] bytes ≡ x → (l : Listed)
     → items_of includes (own_names (functions_of_bytes bytes) x).functions (own_names (functions_of_bytes bytes) x).names bytes ≡ Ok l → first_name_fault (outside (own_names (functions_of_bytes bytes) x)) l.items ≡ None → IsOwnList includes bytes l
@@ -199,10 +193,9 @@ own_list laws includes bytes (Ok first) e l are none =
     record {
       first = first;
       first_are = e;
-      distinct = distinct;
       names = ap (λ (m : Listed). m.names) same;
-      told = ap (λ (m : Listed). names_at m.names (declared_by m.items)) same ∙ told.told;
-      few = subst (λ (m : Listed). length m.names ≤ 32) (sym same) (few_names first (none_too_many (limits_of first) first (items_over functions (arranged [] first) s.code s.tokens) distinct told));
+      told = ap (λ (m : Listed). each_once [] (names_at m.names (declared_by m.items))) same ∙ told.told;
+      few = subst (λ (m : Listed). length m.names ≤ 48) (sym same) (few_names first (none_too_many (limits_of first) first (items_over functions (arranged [] first) s.code s.tokens) distinct told));
     }
 
 own_read : TokenLaws → (includes : Includes) (bytes : List ℕ) (p : Whole) → (a : IsPlainRead includes bytes (Ok p)) → IsOwnList includes bytes a.accepted.listed
@@ -230,18 +223,18 @@ own_declared laws is_file includes bytes p a =
       file = spelled.file;
       forms = spelled.forms;
       declared =
-          sym (all_new [] o.first.names o.distinct)
-          ∙ ap (each_once []) (sym o.told ∙ ap (λ (ns : List (List ℕ)). names_at ns (declared_by a.accepted.listed.items)) (sym names) ∙ ap (names_at p.names) (declared_all spelled.forms));
+          sym o.told ∙ ap (each_once []) (ap (λ (ns : List (List ℕ)). names_at ns (declared_by a.accepted.listed.items)) (sym names) ∙ ap (names_at p.names) (declared_all spelled.forms));
       are = names ∙ o.names;
     }
 
-pub few_declared : TokenLaws → (includes : Includes) (bytes : List ℕ) (p : Whole) → IsPlainRead includes bytes (Ok p) → length p.names ≤ 32
-few_declared laws includes bytes p a = subst (λ (ns : List (List ℕ)). length ns ≤ 32) (sym (same_names includes bytes p a)) (own_read laws includes bytes p a).few
+pub few_declared : TokenLaws → (includes : Includes) (bytes : List ℕ) (p : Whole) → IsPlainRead includes bytes (Ok p) → length p.names ≤ 48
+few_declared laws includes bytes p a = subst (λ (ns : List (List ℕ)). length ns ≤ 48) (sym (same_names includes bytes p a)) (own_read laws includes bytes p a).few
 
 -- ---- what reading a file over its own names answers
 
-abbrev given_of : List (List ℕ) → List (List ℕ) → ℕ → ℕ → Given
-given_of functions names variables constants = record { functions = functions; names = names; variables = variables; constants = constants; values = [] }
+abbrev given_of : List (List ℕ) → List (List ℕ) → ℕ → ℕ → ℕ → Given
+given_of functions names variables locals constants =
+    record { functions = functions; names = names; variables = variables; locals = locals; constants = constants; values = [] }
 
 pub same_numbered : (first : Numbered) (names : List (List ℕ)) (items : List Item) → names ≡ first.names → items ≡ first.items.items → list names items ≡ listed_in first
 same_numbered first names items e f = ap (λ (ns : List (List ℕ)). list ns items) e ∙ ap (λ (xs : List Item). list first.names xs) f
@@ -251,14 +244,21 @@ pub items_of_own : (includes : Includes) (functions given : List (List ℕ)) (by
 unfolding items_of
 items_of_own includes functions given bytes code l is h = ap (λ (r : Result (List ℕ) (FileCode × Place)). and_then r (items_of_code functions given)) is ∙ h
 
-pub own_given : (includes : Includes) (bytes : List ℕ) (functions : List (List ℕ)) (first : Listed) (made : Arranged) → functions_of_bytes bytes ≡ functions → items_of includes functions [] bytes ≡ Ok first → made.names ≡ arranged [] first → made.variables ≡ length (variables_of [] first) → made.constants ≡ length (constants_of [] first)
+-- so many names of each class
+pub record AreCounts (first : Listed) (made : Arranged) : Type 0 where
+  pub variables : made.variables ≡ length (variables_of [] first)
+  pub locals : made.locals ≡ length (locals_of [] first)
+  pub constants : made.constants ≡ length (constants_of [] first)
+
+pub own_given : (includes : Includes) (bytes : List ℕ) (functions : List (List ℕ)) (first : Listed) (made : Arranged) → functions_of_bytes bytes ≡ functions → items_of includes functions [] bytes ≡ Ok first → made.names ≡ arranged [] first → AreCounts first made
     → IsOwn includes bytes (Ok (functions, made))
-own_given includes bytes functions first made own e names variables constants =
+own_given includes bytes functions first made own e names counts =
     ap (λ (fs : List (List ℕ)). own_names fs (items_of includes fs [] bytes)) own
     ∙ ap (own_names functions) e
-    ∙ ap (λ (ns : List (List ℕ)). given_of functions ns (length (variables_of [] first)) (length (constants_of [] first))) (sym names)
-    ∙ ap (λ (v : ℕ). given_of functions made.names v (length (constants_of [] first))) (sym variables)
-    ∙ ap (given_of functions made.names made.variables) (sym constants)
+    ∙ ap (λ (ns : List (List ℕ)). given_of functions ns (length (variables_of [] first)) (length (locals_of [] first)) (length (constants_of [] first))) (sym names)
+    ∙ ap (λ (v : ℕ). given_of functions made.names v (length (locals_of [] first)) (length (constants_of [] first))) (sym counts.variables)
+    ∙ ap (λ (v : ℕ). given_of functions made.names made.variables v (length (constants_of [] first))) (sym counts.locals)
+    ∙ ap (given_of functions made.names made.variables made.locals) (sym counts.constants)
 
 pub given_distinct : (first : Listed) (made : Arranged) → AreDistinct first.names → made.names ≡ arranged [] first → AreDistinct made.names
 given_distinct first made distinct names = subst AreDistinct (sym names) (arranged_distinct [] first distinct)
@@ -266,8 +266,8 @@ given_distinct first made distinct names = subst AreDistinct (sym names) (arrang
 pub given_few : (first : Listed) (made : Arranged) (most : ℕ) → AreDistinct first.names → made.names ≡ arranged [] first → length first.names ≤ most → length made.names ≤ most
 given_few first made most distinct names few = omega (arith, few, arranged_length [] first distinct, ap (λ (ns : List (List ℕ)). length ns) names)
 
-pub given_counted : (first : Listed) (made : Arranged) → made.names ≡ arranged [] first → made.variables ≡ length (variables_of [] first) → made.constants ≡ length (constants_of [] first) → length made.names ≡ made.variables + made.constants
-given_counted first made names variables constants = omega (arith, ap (λ (ns : List (List ℕ)). length ns) names, counted_length first, variables, constants)
+pub given_counted : (first : Listed) (made : Arranged) → made.names ≡ arranged [] first → AreCounts first made → length made.names ≡ (made.variables + made.locals) + made.constants
+given_counted first made names counts = omega (arith, ap (λ (ns : List (List ℕ)). length ns) names, counted_length first, counts.variables, counts.locals, counts.constants)
 
 -- a fault before the items is one over any functions and names
 pub own_refused : (includes : Includes) (bytes : List ℕ) (e : FileRefusal) → IsOwn includes bytes (Err e) → IsRead includes bytes (Err e)
@@ -280,7 +280,7 @@ pub own_reads : (includes : Includes) (bytes : List ℕ) (given : Given) (r : Re
 own_reads includes bytes given r is h = subst (λ (g : Given). IsReadOver includes g bytes r) (sym is) h
 
 abbrev FewNames : Type 0
-FewNames = (includes : Includes) (bytes : List ℕ) (p : Whole) → IsPlainRead includes bytes (Ok p) → length p.names ≤ 32
+FewNames = (includes : Includes) (bytes : List ℕ) (p : Whole) → IsPlainRead includes bytes (Ok p) → length p.names ≤ 48
 
 abbrev FormedIfFew : Program → Type 0
 FormedIfFew p = length (whole p).names ≤ 48 → IsProgram (whole p)

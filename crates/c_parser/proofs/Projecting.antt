@@ -47,6 +47,7 @@ use Rattle.c_parser.proofs.AmongNumbers.{is_same}
 use Rattle.c_parser.proofs.FewNames.{few_names}
 use Rattle.c_parser.proofs.KeptItems.{fit_kept}
 use Rattle.c_grammar.proofs.Apart.{directives_apart}
+use Rattle.c_grammar.proofs.Level.{directives_level}
 use Rattle.c_grammar.proofs.Outside.{directives_outside}
 use Rattle.c_parser.proofs.KeptFaults.{kept_fine}
 use Rattle.c_parser.proofs.KeptNames.{AreOutside}
@@ -133,7 +134,7 @@ pub few : NamesOccur → FamilyNamesAreFew
 few occur dialect model bytes f o =
     let l = o.accepted.listed in
     let same = names_are dialect model bytes f o in (
-      subst (λ (ns : List (List ℕ)). length ns ≤ 32) (sym same) (few_names (context_of model o.known.atoms o.known.formulas o.accepted.listed.names o.known.functions) l.items (length l.names) o.accepted.names (λ x lt. occur dialect (plain model) bytes o.accepted.are.told l x o.accepted.are.items lt)),
+      subst (λ (ns : List (List ℕ)). length ns ≤ 48) (sym same) (few_names (context_of model o.known.atoms o.known.formulas o.accepted.listed.names o.known.functions) l.items (length l.names) o.accepted.names (λ x lt. occur dialect (plain model) bytes o.accepted.are.told l x o.accepted.are.items lt)),
       subst AreDistinct (sym same) (family_distinct dialect (plain model) bytes o.accepted.are.told l o.accepted.are.items),
     )
 
@@ -212,6 +213,7 @@ outside_are occur dialect model bytes f values o =
     let l = o.accepted.listed in
     record {
       variables = refl;
+      locals = refl;
       constants = refl;
       values = λ n. subst (λ (ns : List (List ℕ)). list_any (nat_eq n) (map (λ v. v.0) (presets (uses_of model.features ns) values)) ≡ names.is_value (context_of model o.known.atoms o.known.formulas o.accepted.listed.names o.known.functions) n) (sym (names_are dialect model bytes f o))
           (numbers_of_values context l.items values o.accepted.names (λ x lt. occur dialect (plain model) bytes o.accepted.are.told l x o.accepted.are.items lt) n);
@@ -225,7 +227,7 @@ read occur laws programs are_plain dialect model bytes text f values o v q inclu
     let context = context_of model o.known.atoms o.known.formulas l.names o.known.functions in
     let file = programs.is_file l.names l.items o.spelled o.accepted.spelled in
     let fine : first_name_fault (outside (given_at model (functions_of_bytes bytes) f values)) (kept (names.truths_at (context_of model o.known.atoms o.known.formulas o.accepted.listed.names o.known.functions) values) o.accepted.listed.items) ≡ None =
-    kept_fine context (outside (given_at model (functions_of_bytes bytes) f values)) l.items values (outside_are occur dialect model bytes f values o) (directives_apart l.items file.file file.forms) (directives_outside l.items file.file file.forms) o.accepted.names v
+    kept_fine context (outside (given_at model (functions_of_bytes bytes) f values)) l.items values (outside_are occur dialect model bytes f values o) (directives_apart l.items file.file file.forms) (directives_outside l.items file.file file.forms) (directives_level l.items file.file file.forms) o.accepted.names v
     (main_stays (names.truths_at context values) file.forms) in
     record {
       spelled = projected_program truths o.spelled;

@@ -12,7 +12,7 @@ use Rattle.c_grammar.specs.Constants.{kind_behind}
 use Rattle.c_grammar.specs.Grammar.{at, Prefix, Positive, Negative, Inverse, prefix_sign, Expresses, number, name, group, prefix, loose, binary, Update, Sum, Difference, Product, Quotient, Remainder, update_sign, Count, Raise, Lower, count_sign, Callable, of_input, of_function, Qualifier, Qualified, Shape, Listed, Stated, Chained, Locals, Writes, none, more, choice, local, last_local, next_local, ends, otherwise, elif, assign, input, call, void_call, update, count, prefix_count, assert, skip, block, while, if_then, if_else, with_true, with_false, is_group, Returns, no_return, return, Gap, Gaps, GapRest, Empty, no_more, empty_section, empty_end, empty_else, empty_elif, Body, body}
 use Rattle.c_grammar.specs.Kept.{directive_of}
 use Rattle.c_grammar.specs.Locals.{is_declaring}
-use Rattle.c_grammar.specs.LocalsOf.{locals_in, of_kind, constant_locals_in, locals_of_body, constant_locals_of_body}
+use Rattle.c_grammar.specs.LocalsOf.{locals_in, locals_of_body}
 
 -- ---- items that declare nothing
 
@@ -100,23 +100,23 @@ function_calm p us (of_function k) h = h
 
 -- ---- stretches
 
--- a stretch of items within guards, or what closes a group, with the declarators in it and those of constants among them
-pub data Stretch : (later : Bool) → List Guard → List Item → List Declared → List Declared → Type 0 where
-  calm : (gs : List Guard) (ts : List Item) → are_calm ts ≡ true → Stretch false gs ts [] []
-  behind : (gs : List Guard) (ts : List Item) {us : List Item} {ds cs : List Declared} → are_calm ts ≡ true → Stretch false gs us ds cs → Stretch false gs (ts ++ us) ds cs
-  before : (gs : List Guard) (us : List Item) {ts : List Item} {ds cs : List Declared} → Stretch false gs ts ds cs → are_calm us ≡ true → Stretch false gs (ts ++ us) ds cs
-  both : (gs : List Guard) {ts us : List Item} {ds es cs bs : List Declared} → Stretch false gs ts ds cs → Stretch false gs us es bs → Stretch false gs (ts ++ us) (ds ++ es) (cs ++ bs)
-  declarators : (gs : List Guard) {ts us vs : List Item} {c : Code} {kind : Qualifier} {es bs : List Declared} → Qualified kind ts → (v : Writes (Locals kind) us c) → Stretch false gs vs es bs → Stretch false gs (ts ++ (us ++ vs)) (locals_in gs v ++ es) (of_kind kind (locals_in gs v) ++ bs)
-  groups : (gs : List Guard) (p : Place) (n : ℕ) {ts us vs : List Item} {ds es fs cs bs ys : List Declared} → Stretch false (with_true gs n) ts ds cs → Stretch true (with_false gs n) us es bs → Stretch false gs vs fs ys → Stretch false gs (at p (signs.GroupIf n) ∷ (ts ++ (us ++ vs))) (ds ++ (es ++ fs)) (cs ++ (bs ++ ys))
-  end_group : (gs : List Guard) (p : Place) → Stretch true gs (at p signs.GroupEnd ∷ []) [] []
-  else_group : (gs : List Guard) (p q : Place) {ts : List Item} {ds cs : List Declared} → Stretch false gs ts ds cs → Stretch true gs (at p signs.GroupElse ∷ (ts ++ at q signs.GroupEnd ∷ [])) ds cs
-  elif_group : (gs : List Guard) (p : Place) (n : ℕ) {ts us : List Item} {ds es cs bs : List Declared} → Stretch false (with_true gs n) ts ds cs → Stretch true (with_false gs n) us es bs → Stretch true gs (at p (signs.GroupElif n) ∷ (ts ++ us)) (ds ++ es) (cs ++ bs)
+-- a stretch of items within guards, or what closes a group, with the declarators in it
+pub data Stretch : (later : Bool) → List Guard → List Item → List Declared → Type 0 where
+  calm : (gs : List Guard) (ts : List Item) → are_calm ts ≡ true → Stretch false gs ts []
+  behind : (gs : List Guard) (ts : List Item) {us : List Item} {ds : List Declared} → are_calm ts ≡ true → Stretch false gs us ds → Stretch false gs (ts ++ us) ds
+  before : (gs : List Guard) (us : List Item) {ts : List Item} {ds : List Declared} → Stretch false gs ts ds → are_calm us ≡ true → Stretch false gs (ts ++ us) ds
+  both : (gs : List Guard) {ts us : List Item} {ds es : List Declared} → Stretch false gs ts ds → Stretch false gs us es → Stretch false gs (ts ++ us) (ds ++ es)
+  declarators : (gs : List Guard) {ts us vs : List Item} {c : Code} {kind : Qualifier} {es : List Declared} → Qualified kind ts → (v : Writes (Locals kind) us c) → Stretch false gs vs es → Stretch false gs (ts ++ (us ++ vs)) (locals_in gs v ++ es)
+  groups : (gs : List Guard) (p : Place) (n : ℕ) {ts us vs : List Item} {ds es fs : List Declared} → Stretch false (with_true gs n) ts ds → Stretch true (with_false gs n) us es → Stretch false gs vs fs → Stretch false gs (at p (signs.GroupIf n) ∷ (ts ++ (us ++ vs))) (ds ++ (es ++ fs))
+  end_group : (gs : List Guard) (p : Place) → Stretch true gs (at p signs.GroupEnd ∷ []) []
+  else_group : (gs : List Guard) (p q : Place) {ts : List Item} {ds : List Declared} → Stretch false gs ts ds → Stretch true gs (at p signs.GroupElse ∷ (ts ++ at q signs.GroupEnd ∷ [])) ds
+  elif_group : (gs : List Guard) (p : Place) (n : ℕ) {ts us : List Item} {ds es : List Declared} → Stretch false (with_true gs n) ts ds → Stretch true (with_false gs n) us es → Stretch true gs (at p (signs.GroupElif n) ∷ (ts ++ us)) (ds ++ es)
 
 -- declarators are no stretch of their own: a type stands before them
 abbrev StretchOf : (shape : Shape) {ts : List Item} {c : Code} → List Guard → Writes shape ts c → Type 0
-StretchOf Listed {ts} gs s = Stretch false gs ts (locals_in gs s) (constant_locals_in gs s)
-StretchOf (Stated b) {ts} gs s = Stretch false gs ts (locals_in gs s) (constant_locals_in gs s)
-StretchOf Chained {ts} gs s = Stretch true gs ts (locals_in gs s) (constant_locals_in gs s)
+StretchOf Listed {ts} gs s = Stretch false gs ts (locals_in gs s)
+StretchOf (Stated b) {ts} gs s = Stretch false gs ts (locals_in gs s)
+StretchOf Chained {ts} gs s = Stretch true gs ts (locals_in gs s)
 StretchOf (Locals kind) gs s = Unit {0}
 
 pub stretch_of : {shape : Shape} {ts : List Item} {c : Code} (gs : List Guard) → (s : Writes shape ts c) → StretchOf shape gs s
@@ -160,8 +160,8 @@ return_calm (return p q r n) = refl
 
 -- behind `main` there are groups alone
 abbrev StretchOfGap : Gap → List Guard → List Item → Type 0
-StretchOfGap Gaps gs us = Stretch false gs us [] []
-StretchOfGap GapRest gs us = Stretch true gs us [] []
+StretchOfGap Gaps gs us = Stretch false gs us []
+StretchOfGap GapRest gs us = Stretch true gs us []
 
 stretch_of_gap : {gap : Gap} {us : List Item} (gs : List Guard) → Empty gap us → StretchOfGap gap gs us
 stretch_of_gap gs no_more = calm gs [] refl
@@ -170,6 +170,6 @@ stretch_of_gap gs (empty_end p) = end_group gs p
 stretch_of_gap gs (empty_else p q a) = else_group gs p q (stretch_of_gap gs a)
 stretch_of_gap gs (empty_elif p n a b) = elif_group gs p n (stretch_of_gap (with_true gs n) a) (stretch_of_gap (with_false gs n) b)
 
-pub stretch_of_body : {us : List Item} {c : Code} {p : Place} → (b : Body us c p) → Stretch false [] us (locals_of_body b ++ []) (constant_locals_of_body b ++ [])
+pub stretch_of_body : {us : List Item} {c : Code} {p : Place} → (b : Body us c p) → Stretch false [] us (locals_of_body b ++ [])
 stretch_of_body (body p {us} {vs} s r e) =
     both [] (stretch_of [] s) (behind [] vs (return_calm r) (behind [] (at p signs.RightBrace ∷ []) refl (stretch_of_gap [] e)))

@@ -1,26 +1,41 @@
 -- What judging the names of items one by one answers.
-use Rattle.std.specs.Prelude.{◌≡◌, ℕ, Bool, true, false, List, [], ◌∷◌, ◌++◌, Option, None, if◌then◌else◌}
+use Rattle.std.specs.Prelude.{◌≡◌, ℕ, Bool, true, false, not, ◌&&◌, List, [], ◌∷◌, ◌++◌, Option, None, if◌then◌else◌}
 use Rattle.fam_outer.specs.declared.faults.Place.{Place}
 use Rattle.fam_outer.specs.declared.faults.FileCode.{FileCode}
 use Rattle.c_grammar.specs.declared.items.Item.{Item}
 use Rattle.c_grammar.specs.declared.items.Sign.{Sign}
 use Rattle.c_grammar.specs.declared.items.Sign.TheVariants as signs
+use Rattle.c_grammar.specs.declared.constants.NameKind.TheVariants as kinds
+use Rattle.c_grammar.specs.declared.scoped.Scoped.{Scoped}
 use Rattle.c_grammar.specs.Changes.{IsTrack}
+use Rattle.c_grammar.specs.Constants.{is_constant, kind_after, of_constants}
 use Rattle.c_grammar.specs.Grammar.{at}
+use Rattle.c_grammar.specs.Scoped.{IsSound, is_inside, still}
+use Rattle.c_grammar.specs.Scopes.{names_in_scope, still_in_scope}
 use Rattle.c_parser.specs.declared.constants.Constants.{Constants}
 use Rattle.c_parser.specs.declared.prototypes.Prototypes.{Prototypes}
 use Rattle.c_parser.specs.declared.names.Known.{Known}
 use Rattle.c_parser.specs.declared.names.Limits.{Limits}
-use Rattle.c_parser.specs.Names.{Outside, has_main, declared_by, constants_by, functions_by, declaration_fault, unlike_fault, prototype_fault, call_fault, name_fault}
+use Rattle.c_parser.specs.Names.{Outside, has_main, names_of, is_used_behind, functions_by, declaration_fault, unlike_fault, prototype_fault, call_fault, name_fault}
 
 -- names that are to be counted, and none with a value from outside
 abbrev pub counted : Limits → Outside
-counted limits = record { variables = limits.variables; constants = limits.constants; values = [] }
+counted limits = record { variables = limits.variables; locals = limits.locals; constants = limits.constants; values = [] }
 
--- the fault of a declaration behind others; without one the name stands behind them
-pub record Declares (o : Outside) (old : List ℕ) (x : ℕ) (new : List ℕ) (fault : Option FileCode) : Type 0 where
-  pub fault_is : fault ≡ declaration_fault o old x
-  pub added : fault ≡ None → new ≡ old ++ x ∷ []
+-- the names that are in scope behind these items, each one until its block is left
+pub record AreInScope (before : List Item) (names : Scoped ℕ) : Type 0 where
+  pub sound : IsSound names
+  pub inside : is_inside names ≡ has_main before
+  pub still_are : (n : ℕ) → still n names ≡ names_of (still_in_scope n before)
+
+-- and behind a sign more
+abbrev pub AreInScopeBehind : List Item → Sign → Scoped ℕ → Type 0
+AreInScopeBehind before sign names = (p : Place) → AreInScope (before ++ at p sign ∷ []) names
+
+-- the fault of a declaration behind these items; without one the name comes into scope
+pub record Declares (o : Outside) (before : List Item) (x : ℕ) (names : Scoped ℕ) (fault : Option FileCode) : Type 0 where
+  pub fault_is : fault ≡ declaration_fault o (names_in_scope before) x
+  pub added : fault ≡ None → AreInScopeBehind before (signs.Name x) names
 
 -- the fault of a declaration of a function, behind declarations like it and others; without one it stands behind those like it
 pub record DeclaresAlike (old others : List ℕ) (k : ℕ) (new : List ℕ) (fault : Option FileCode) : Type 0 where
@@ -39,7 +54,7 @@ pub record JudgesFunction (before : List Item) (k : ℕ) (prototypes : Prototype
 
 -- what is known behind these items
 pub record IsKnown (before : List Item) (known : Known) : Type 0 where
-  pub declared : known.declared.items ≡ declared_by before
+  pub declared : AreInScope before known.declared
   pub prototypes : ArePrototypes before known.prototypes
   pub main : known.in_main ≡ has_main before
 
@@ -48,12 +63,11 @@ pub record Judges (o : Outside) (before : List Item) (sign : Sign) (known : Know
   pub fault_is : fault ≡ name_fault o before sign
   pub known_is : fault ≡ None → (p : Place) → IsKnown (before ++ at p sign ∷ []) known
 
+-- a name behind these items is declared as a constant
+abbrev pub declares_constant : List Item → Bool
+declares_constant before = is_constant (kind_after kinds.Variable before) && not (is_used_behind before)
+
 -- what is known of constants behind these items
 pub record AreHeld (before : List Item) (constants : Constants) : Type 0 where
   pub track : IsTrack before constants.track
-  pub names : constants.names.items ≡ constants_by before
-
--- the names, and one more where the sign is one and it is a constant's
-abbrev pub with_constant : List ℕ → Bool → Sign → List ℕ
-with_constant names true (signs.Name x) = names ++ x ∷ []
-with_constant names _ _ = names
+  pub names : AreInScope (of_constants before) constants.names

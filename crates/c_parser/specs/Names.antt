@@ -1,6 +1,7 @@
 -- The names that the items of a file without groups declare, and the first fault of a name (ISO/IEC 9899:2011, 6.5.1, 6.5.2.2 and 6.7).
 -- Before `main` each name is that of a declaration, and in it one behind a word of a type, `const` or a comma; the others are used. The scope
--- of a name that `main` declares begins behind its declarator. Functions are declared before `main`, and called in it.
+-- of a name that `main` declares begins behind its declarator and ends with its block (6.2.1); in it the name is not declared again.
+-- Functions are declared before `main`, and called in it.
 use Rattle.std.specs.Prelude.{ℕ, ◌+◌, nat_eq, nat_lt, Bool, true, false, not, ◌&&◌, ◌||◌, List, [], ◌∷◌, ◌++◌, map, get_or, Option, Some, None, option_map, if◌then◌else◌}
 use Rattle.std.specs.List.{list_any}
 use Rattle.fam_outer.specs.declared.faults.Place.{Place}
@@ -14,6 +15,7 @@ use Rattle.c_grammar.specs.Constants.{of_constants}
 use Rattle.c_grammar.specs.Functions.{is_void, is_equals, function_of, stands_behind, of_functions}
 pub use Rattle.c_grammar.specs.Locals.{is_main, name_of, names_of, declared_by}
 use Rattle.c_grammar.specs.Locals.{declares_behind, is_in_own}
+use Rattle.c_grammar.specs.Scopes.{names_in_scope}
 use Rattle.cpp_lines.specs.Faults.{or_later}
 use Rattle.c_tree.specs.declared.lists.Declared.{Declared}
 use Rattle.c_parser.specs.Items.{with_name}
@@ -22,9 +24,9 @@ use Rattle.c_parser.specs.Items.{with_name}
 abbrev pub has_main : List Item → Bool
 has_main items = list_any (λ x. is_main x.sign) items
 
--- the names that the items declare as constants
-abbrev pub constants_by : List Item → List ℕ
-constants_by items = declared_by (of_constants items)
+-- the names that are in scope behind the items as constants
+abbrev pub constants_in_scope : List Item → List ℕ
+constants_in_scope items = names_in_scope (of_constants items)
 
 -- the functions among the items before `main`
 abbrev pub prototypes_of : List Item → List ℕ
@@ -52,31 +54,37 @@ abbrev pub each_once : List (List ℕ) → List (List ℕ) → List (List ℕ)
 each_once seen [] = seen
 each_once seen (name ∷ names) = each_once (with_name seen name) names
 
--- what is known of the names of a file by their numbers: how many variables there are, which come first, and how many constants, which come
--- behind them, where both are to be counted; and which names have values from outside, as those of features have
+-- what is known of the names of a file by their numbers: how many variables there are, which come first, how many names that `main` declares,
+-- which come behind them, and how many constants behind these, where they are to be counted; and which names have values from outside, as
+-- those of features have
 pub record Outside : Type 0 where
   pub variables : ℕ
+  pub locals : ℕ
   pub constants : ℕ
   pub values : List ℕ
 
 abbrev pub has_value : Outside → ℕ → Bool
 has_value o x = list_any (nat_eq x) o.values
 
--- the name is the 17th variable or the 17th constant
+-- the name with this number is the 17th of so many, which come behind so many others
+abbrev pub is_seventeenth : ℕ → ℕ → ℕ → Bool
+is_seventeenth others count x = nat_eq x (others + 16) && nat_lt 16 count
+
+-- the name is the 17th variable, the 17th that `main` declares, or the 17th constant
 abbrev pub limit_fault : Outside → ℕ → Option FileCode
 limit_fault o x =
-    if nat_eq x 16 && nat_lt x o.variables then Some TooManyVariables
-    else (if nat_eq x (o.variables + 16) && nat_lt x (o.variables + o.constants) then Some TooManyConstants else None)
+    if is_seventeenth 0 o.variables x || is_seventeenth o.variables o.locals x then Some TooManyVariables
+    else (if is_seventeenth (o.variables + o.locals) o.constants x then Some TooManyConstants else None)
 
--- a name is declared a second time, has a value from outside, or is one too many, where these are declared before it
+-- a name is declared a second time in a scope, has a value from outside, or is one too many, where these are in scope before it
 abbrev pub declaration_fault : Outside → List ℕ → ℕ → Option FileCode
-declaration_fault o earlier x =
-    if list_any (nat_eq x) earlier then Some (Twice None)
+declaration_fault o scope x =
+    if list_any (nat_eq x) scope then Some (Twice None)
     else (if has_value o x then Some FeatureInCode else limit_fault o x)
 
--- a name is used that is not declared, or in its own declarator, and has no value from outside
+-- a name is used that is not in scope, or in its own declarator, and has no value from outside
 abbrev pub use_fault : Outside → Bool → List ℕ → ℕ → Option FileCode
-use_fault o own declared x = if has_value o x || (not own && list_any (nat_eq x) declared) then None else Some (Undeclared None)
+use_fault o own scope x = if has_value o x || (not own && list_any (nat_eq x) scope) then None else Some (Undeclared None)
 
 -- a function is declared where these are declared otherwise (6.7p4); alike it may be declared again
 abbrev pub unlike_fault : List ℕ → ℕ → Option FileCode
@@ -99,7 +107,8 @@ is_used_behind before = has_main before && not (declares_behind before)
 
 -- the fault of an item behind these
 abbrev pub name_fault : Outside → List Item → Sign → Option FileCode
-name_fault o before (signs.Name x) = if is_used_behind before then use_fault o (is_in_own before x) (declared_by before) x else declaration_fault o (declared_by before) x
+name_fault o before (signs.Name x) =
+    if is_used_behind before then use_fault o (is_in_own before x) (names_in_scope before) x else declaration_fault o (names_in_scope before) x
 name_fault o before (signs.Function k) = if has_main before then call_fault before k else prototype_fault before k
 name_fault o before _ = None
 
@@ -111,7 +120,7 @@ constant_fault constants (Some change) = if list_any (nat_eq change.0) constants
 -- the fault of a name that an item changes, together with the last one of those before it: only behind `main`; a name with a value from
 -- outside is a constant
 abbrev pub change_fault : Outside → List Item → Item → Option (FileCode × Place)
-change_fault o before x = if has_main before then constant_fault (o.values ++ constants_by before) (changed_at before x) else None
+change_fault o before x = if has_main before then constant_fault (o.values ++ constants_in_scope before) (changed_at before x) else None
 
 -- the first fault of a name among the items behind these: of an item that is its own name before what it changes, whose name
 -- stands at it or directly before it

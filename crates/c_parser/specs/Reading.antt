@@ -21,7 +21,7 @@ use Rattle.c_parser.specs.Functions.{functions_of_bytes}
 use Rattle.c_parser.specs.Items.{Listed, listed}
 use Rattle.feature_values.specs.Declarators.{with_presets}
 use Rattle.c_parser.specs.Names.{Outside, declared_by, first_name_fault, targets, names_at, each_once}
-use Rattle.c_parser.specs.Order.{variables_of, constants_of, arranged}
+use Rattle.c_parser.specs.Order.{variables_of, locals_of, constants_of, arranged}
 use Rattle.c_parser.specs.Phases.{FileMeaning, IsAcceptedFile, IsRefusedFile}
 
 -- ---- the phases before the grammar: the length, the comments, the lines, and the tokens of the code
@@ -42,21 +42,23 @@ items_of includes functions given bytes = and_then (code_of_file includes bytes)
 
 -- ---- all phases
 
--- what is given of a file: the functions outside; before its own names others, of which the first so many are variables, and behind them so
--- many constants, where they are to be counted; and the values that some of them have from outside, by their numbers
+-- what is given of a file: the functions outside; before its own names others, of which the first so many are variables, so many behind
+-- them names that `main` declares, and so many behind these constants, where they are to be counted; and the values that some of them have
+-- from outside, by their numbers
 pub record Given : Type 0 where
   pub functions : List (List ℕ)
   pub names : List (List ℕ)
   pub variables : ℕ
+  pub locals : ℕ
   pub constants : ℕ
   pub values : List (ℕ × ℤ)
 
 -- these functions and names alone
 abbrev pub only_names : List (List ℕ) → List (List ℕ) → Given
-only_names functions names = record { functions = functions; names = names; variables = 0; constants = 0; values = [] }
+only_names functions names = record { functions = functions; names = names; variables = 0; locals = 0; constants = 0; values = [] }
 
 abbrev pub outside : Given → Outside
-outside given = record { variables = given.variables; constants = given.constants; values = map (λ v. v.0) given.values }
+outside given = record { variables = given.variables; locals = given.locals; constants = given.constants; values = map (λ v. v.0) given.values }
 
 -- files without groups; nothing is known besides
 abbrev pub plain_files : Includes → Given → FileMeaning ⊤
@@ -80,7 +82,7 @@ IsPlainReadOver includes given bytes (Err fault) = IsRefusedFile (plain_files in
 -- the functions, and a file's own names in their order; none where it has a fault before its items
 abbrev pub own_names : List (List ℕ) → Result Listed (FileCode × Place) → Given
 own_names functions (Ok l) =
-    record { functions = functions; names = arranged [] l; variables = length (variables_of [] l); constants = length (constants_of [] l); values = [] }
+    record { functions = functions; names = arranged [] l; variables = length (variables_of [] l); locals = length (locals_of [] l); constants = length (constants_of [] l); values = [] }
 own_names functions (Err fault) = only_names [] []
 
 abbrev pub own : Includes → List ℕ → Given
@@ -90,8 +92,8 @@ own includes bytes = own_names (functions_of_bytes bytes) (items_of includes (fu
 abbrev pub IsPlainRead : Includes → List ℕ → Result Whole (FileCode × Place) → Type 0
 IsPlainRead includes bytes answer = IsPlainReadOver includes (own includes bytes) bytes answer
 
--- the names that the spelled file declares, before `main` by its declarators and in `main`, each once: the variables, and behind them the
--- constants, both in the order of their first declaration. By first occurrence the names of its text stand in the order of their
+-- the names that the spelled file declares, before `main` by its declarators and in `main`, each once: the variables, behind them those that
+-- `main` declares, and behind these the constants, each in the order of their first declaration. By first occurrence the names of its text stand in the order of their
 -- declarations, whatever they are
 pub record AreDeclaredNames (includes : Includes) (bytes : List ℕ) (names : List (List ℕ)) : Type 0 where
   pub first : Listed

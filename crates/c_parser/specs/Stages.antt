@@ -62,10 +62,11 @@ IsSpelledAs names items end (Err refusals.NoMemory) = ⊤
 
 -- functions and names that are given, and how many of them are to be counted
 abbrev pub given_in : List (List ℕ) → List (List ℕ) → Limits → Given
-given_in functions names limits = record { functions = functions; names = names; variables = limits.variables; constants = limits.constants; values = [] }
+given_in functions names limits =
+    record { functions = functions; names = names; variables = limits.variables; locals = limits.locals; constants = limits.constants; values = [] }
 
 -- the functions and the names of a file in their order, these with their counts, or its first fault before the grammar; want of memory is free
 abbrev pub IsOwn : Includes → List ℕ → Result (List (List ℕ) × Arranged) FileRefusal → Type 0
-IsOwn includes bytes (Ok (functions, made)) = own includes bytes ≡ given_in functions made.names (record { variables = made.variables; constants = made.constants })
+IsOwn includes bytes (Ok (functions, made)) = own includes bytes ≡ given_in functions made.names (record { variables = made.variables; locals = made.locals; constants = made.constants })
 IsOwn includes bytes (Err (refusals.Fault code place)) = items_of includes (functions_of_bytes bytes) [] bytes ≡ Err (code, place)
 IsOwn includes bytes (Err refusals.NoMemory) = ⊤

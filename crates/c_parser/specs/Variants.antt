@@ -37,7 +37,8 @@ names_in f = (whole f.code).names
 -- what is given of a family to the text of the variant of a configuration: its functions, its names, and the values of the features among
 -- these
 abbrev pub given_of : List Feature → List (List ℕ) → List (List ℕ) → List ℤ → Given
-given_of features functions names values = record { functions = functions; names = names; variables = 0; constants = 0; values = presets (uses_of features names) values }
+given_of features functions names values =
+    record { functions = functions; names = names; variables = 0; locals = 0; constants = 0; values = presets (uses_of features names) values }
 
 abbrev pub given_at : Model → List (List ℕ) → Family → List ℤ → Given
 given_at model functions f values = given_of model.features functions (names_in f) values
@@ -73,9 +74,9 @@ VariantsAreRead = (dialect : Dialect) (model : Model) (bytes text : List ℕ) (f
 abbrev pub FamiliesHaveTexts : Type 0
 FamiliesHaveTexts = (dialect : Dialect) (model : Model) (bytes : List ℕ) (f : Family) (fault : FileCode × Place) → IsFamilyOf dialect model bytes f → (blanked_file bytes ≡ Err fault) ⊎ HasLineFault dialect (plain model) bytes fault → ⊥
 
--- a family has at most 32 names, all distinct: 16 variables, and 16 constants and features
+-- a family has at most 48 names, all distinct: 16 variables, 16 that `main` declares, and 16 constants and features
 abbrev pub FamilyNamesAreFew : Type 0
-FamilyNamesAreFew = (dialect : Dialect) (model : Model) (bytes : List ℕ) (f : Family) → IsFamilyOf dialect model bytes f → (length (names_in f) ≤ 32) × AreDistinct (names_in f)
+FamilyNamesAreFew = (dialect : Dialect) (model : Model) (bytes : List ℕ) (f : Family) → IsFamilyOf dialect model bytes f → (length (names_in f) ≤ 48) × AreDistinct (names_in f)
 
 -- among them are all names that a variant's text declares
 abbrev pub VariantsDeclareAmong : Type 0

@@ -2,21 +2,25 @@
 #![tactic(auto)]
 
 ghost use Rattle.std.specs.Prelude.{◌≡◌, [], ◌∷◌, ◌++◌, List, OnOk};
+ghost use Rattle.fam_outer.specs.declared.faults.Place as places;
 ghost use Rattle.c_grammar.specs.declared.items.Item as items;
+ghost use Rattle.c_grammar.specs.Constants.{of_constants};
+ghost use Rattle.c_grammar.specs.Grammar.{at};
 ghost use Rattle.c_parser.specs.declared.names.Limits.{Limits};
 ghost use Rattle.c_parser.specs.Judging as judging;
 ghost use Rattle.c_parser.specs.Names as specs;
 
-use crate::names::{Known, contains, uses_next};
-use c_grammar::{Item, Sign, Track};
+use crate::names::{Known, contains, follow_blocks, uses_next};
+use c_grammar::{Item, Scoped, Sign, Track};
 use fam_outer::{FileCode, NoMemory, Place};
 use std::alloc::Global;
 
-/// What is known of constants behind some items: what they tell of the next one, and the names of constants.
+/// What is known of constants behind some items: what they tell of the next one, and the names of constants whose block is
+/// open.
 #[derive(Drop)]
 pub(crate) struct Constants {
     pub(crate) track: Track,
-    names: Vec<u32>,
+    names: Scoped<u32>,
 }
 
 /// The fault of a name that is changed.
@@ -44,19 +48,29 @@ pub(crate) fn change_fault(
     if !known.in_main {
         return None;
     }
-    constant_fault(&constants.names, constants.track.change(item))
+    constant_fault(constants.names.items(), constants.track.change(item))
 }
 
-/// Adds the name, where the sign is one and it is a constant's.
-fn declare_constant(names: &mut Vec<u32>, is_constant: bool, sign: Sign) -> Result<(), NoMemory>
-    ensures { OnOk result (names.new.items ≡ judging.with_constant names.old.items is_constant sign) }
+/// Goes on behind a sign, in `main` or before it: a name that is declared as a constant comes into scope.
+fn follow_constants(
+    names: &mut Scoped<u32>,
+    is_declared: bool,
+    in_main: bool,
+    sign: Sign,
+) -> Result<(), NoMemory>
+    ensures { (before : List items.Item) → judging.AreInScope (of_constants before) names.old
+        → in_main ≡ specs.has_main before → is_declared ≡ judging.declares_constant before
+        → OnOk result ((p : places.Place) → judging.AreInScope (of_constants (before ++ at p sign ∷ [])) names.new) }
 {
     match sign {
-        Sign::Name(number) if is_constant => {
-            names.push(number)?;
-            Ok(())
+        Sign::Name(number) => {
+            if is_declared {
+                names.push(number)
+            } else {
+                Ok(())
+            }
         }
-        _ => Ok(()),
+        _ => follow_blocks(names, in_main, sign),
     }
 }
 
@@ -67,20 +81,20 @@ impl Constants {
     {
         Constants {
             track: Track::new(),
-            names: Vec::new(alloc),
+            names: Scoped::new(alloc),
         }
     }
 
     /// Goes on behind an item, behind others of which this is known: a name that is declared, with `const` or `enum`, or by
-    /// `#define`, is a constant's.
+    /// `#define`, is a constant's, up to the end of its block.
     pub(crate) fn follow(&mut self, known: &Known, item: Item) -> Result<(), NoMemory>
         ensures { (before : List items.Item) → judging.IsKnown before known.now
             → judging.AreHeld before self.old
             → OnOk result (judging.AreHeld (before ++ item ∷ []) self.new) }
     {
         let is_used = uses_next(known.in_main, &self.track);
-        let is_constant = self.track.is_constant() && !is_used;
-        declare_constant(&mut self.names, is_constant, item.sign)?;
+        let is_declared = self.track.is_constant() && !is_used;
+        follow_constants(&mut self.names, is_declared, known.in_main, item.sign)?;
         self.track.follow(item);
         Ok(())
     }

@@ -134,8 +134,9 @@ fn with_values(
 /// `Cond`, with the number of its condition; an `#elif` opens one in the `no` side of the one before. Each declarator before
 /// `main` stands with the guards of the groups around it; a declaration in `main` is read as a statement at each of its names,
 /// as `read_plain` reads it, and so it may stand in a `Cond`. Each name is one that the file declares, before `main` or in it,
-/// or that of an integer feature which it uses as a value: at most 16 variables, then the constants, and then the features,
-/// these two at most 16 together. A feature that is used has its value from tests of the feature, at most 256 in all, which
+/// or that of an integer feature which it uses as a value: at most 16 variables before `main`, then at most 16 that `main`
+/// declares, then the constants before `main`, and then the features, these two at most 16 together. The first declaration of
+/// a name decides where it stands. A feature that is used has its value from tests of the feature, at most 256 in all, which
 /// stand behind the conditions of the file: by a declarator for each value, with the guard of its test. So there are at most
 /// 320 atoms. A file without group directives that names no feature gives a plain program.
 ///
@@ -146,9 +147,9 @@ fn with_values(
 /// is a group directive, or an `else` directly behind one, and else `Syntax`; `TooDeep` at the first at which some file goes
 /// on, but none within the limits (`read_plain` has them; a group and each `#elif` count as well); and then the first
 /// fault of a name as `family_names::first_name_fault` has it, with the least valid configuration as its example. So a name
-/// that `main` declares is `Undeclared` up to the end of its declarator, and `Twice` where some valid configuration keeps
-/// another declaration of it too, in whichever blocks they stand; and it counts as the others for `TooManyVariables` and
-/// `TooManyConstants`. `NoMemory` is want of memory.
+/// that `main` declares is `Undeclared` up to the end of its declarator and behind its block, unless each valid configuration
+/// that keeps the use has another declaration of it in scope; it is `Twice` where one has another in scope at the declaration;
+/// and the 17th that `main` declares is one of `TooManyVariables`. `NoMemory` is want of memory.
 pub fn read_family(
     alloc: Global,
     dialect: Dialect,

@@ -39,13 +39,14 @@ pub fn reads_something()
     reads_within_the_limits();
 }
 
-/// The names of a program that is read over its file's own names are those that the file declares: the variables, and behind
-/// them the constants, both in the order of their first declaration. There are at most 32, 16 of each kind.
+/// The names of a program that is read over its file's own names are those that the file declares: the variables before
+/// `main`, behind them those that `main` declares, and behind these the constants before `main`, each in the order of their
+/// first declaration. There are at most 48, 16 of each class.
 pub fn names_are_declared()
     ensures names { (includes : Includes) (bytes : List ℕ) (p : Whole)
         → IsPlainRead includes bytes (Ok p) → AreDeclaredNames includes bytes p.names }
     ensures few { (includes : Includes) (bytes : List ℕ) (p : Whole)
-        → IsPlainRead includes bytes (Ok p) → length p.names ≤ 32 }
+        → IsPlainRead includes bytes (Ok p) → length p.names ≤ 48 }
 {
     within_the_limits_is_a_file();
     reads_longest_lexemes();

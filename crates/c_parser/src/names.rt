@@ -1,19 +1,20 @@
 //! The first fault of a name.
 #![tactic(auto)]
 
-ghost use Rattle.std.specs.Prelude.{◌≡◌, nat_eq, List, IfOk};
+ghost use Rattle.std.specs.Prelude.{◌≡◌, ◌<◌, ◌^◌, nat_eq, false, List, IfOk, OnOk};
 ghost use Rattle.std.specs.List.{list_any};
 ghost use Rattle.c_parser.specs.Names as specs;
 ghost use Rattle.c_grammar.specs.declared.items.Item as items;
 ghost use Rattle.c_grammar.specs.Changes.{IsTrack};
+ghost use Rattle.c_grammar.specs.Constants.{is_name};
 ghost use Rattle.c_grammar.specs.Locals.{is_in_own};
 ghost use Rattle.c_parser.specs.declared.names.Limits as limits;
-ghost use Rattle.c_parser.specs.Judging.{Declares, IsKnown, Judges, counted};
+ghost use Rattle.c_parser.specs.Judging.{AreInScope, AreInScopeBehind, Declares, IsKnown, Judges, counted};
 
 use crate::constants::{Constants, change_fault};
 use crate::prototypes::Prototypes;
-use c_grammar::{Item, Sign, Track};
-use fam_outer::{FileCode, MOST_CONSTANTS, MOST_NAMES, NoMemory, Place};
+use c_grammar::{Item, Scoped, Sign, Track};
+use fam_outer::{FileCode, MOST_NAMES, NoMemory, Place};
 use std::alloc::Global;
 
 /// Whether a number is among these.
@@ -28,52 +29,65 @@ pub(crate) fn contains(numbers: &[u32], number: u32) -> bool
     false
 }
 
-/// What is known behind some items: the names and the functions that they declare, and whether `main` is among them.
+/// What is known behind some items: the names that they declare and whose block is open, the functions that they declare, and
+/// whether `main` is among them.
 #[derive(Drop)]
 pub(crate) struct Known {
-    declared: Vec<u32>,
+    declared: Scoped<u32>,
     prototypes: Prototypes,
     pub(crate) in_main: bool,
 }
 
-/// How many of the names of a file, the first ones, are variables, and how many behind these are constants, where both are
-/// to be counted.
+/// How many of the names of a file, the first ones, are variables, how many behind these are those of `main`, and how many
+/// behind these constants, where they are to be counted.
 #[derive(Clone, Copy)]
 pub(crate) struct Limits {
     pub(crate) variables: u32,
+    pub(crate) locals: u32,
     pub(crate) constants: u32,
 }
 
-/// The fault of a name that is the 17th variable or the 17th constant.
+/// Whether the name with this number is the 17th of so many, which come behind so many others.
+fn is_seventeenth(others: usize, count: u32, number: u32) -> bool
+    requires { others < 2 ^ 33 }
+    ensures { result ≡ specs.is_seventeenth others count number }
+{
+    number as usize == others + MOST_NAMES && count as usize > MOST_NAMES
+}
+
+/// The fault of a name that is the 17th variable, the 17th of `main` or the 17th constant.
 fn limit_fault(limits: Limits, number: u32) -> Option<FileCode>
     ensures { result ≡ specs.limit_fault (counted limits) number }
 {
-    let number = number as usize;
     let variables = limits.variables as usize;
-    if number == MOST_NAMES && number < variables {
+    if is_seventeenth(0, limits.variables, number)
+        || is_seventeenth(variables, limits.locals, number)
+    {
         return Some(FileCode::TooManyVariables);
     }
-    if number == variables + MOST_CONSTANTS && number < variables + limits.constants as usize {
+    let others = variables + limits.locals as usize;
+    if is_seventeenth(others, limits.constants, number) {
         return Some(FileCode::TooManyConstants);
     }
     None
 }
 
-/// The fault of a declaration.
-fn declaration_fault(limits: Limits, declared: &[u32], number: u32) -> Option<FileCode>
-    ensures { result ≡ specs.declaration_fault (counted limits) declared.now number }
+/// The fault of a declaration, where these names are in scope.
+fn declaration_fault(limits: Limits, scope: &[u32], number: u32) -> Option<FileCode>
+    ensures { result ≡ specs.declaration_fault (counted limits) scope.now number }
 {
-    if contains(declared, number) {
+    if contains(scope, number) {
         return Some(FileCode::Twice(None));
     }
     limit_fault(limits, number)
 }
 
-/// The fault of a use, in the name's own declarator or not: the scope of a name begins behind its declarator.
-fn use_fault(is_in_own: bool, declared: &[u32], number: u32) -> Option<FileCode>
-    ensures { (counts : limits.Limits) → result ≡ specs.use_fault (counted counts) is_in_own declared.now number }
+/// The fault of a use, in the name's own declarator or not, where these names are in scope: a name is in scope behind its
+/// declarator.
+fn use_fault(is_in_own: bool, scope: &[u32], number: u32) -> Option<FileCode>
+    ensures { (counts : limits.Limits) → result ≡ specs.use_fault (counted counts) is_in_own scope.now number }
 {
-    if !is_in_own && contains(declared, number) {
+    if !is_in_own && contains(scope, number) {
         None
     } else {
         Some(FileCode::Undeclared(None))
@@ -99,19 +113,41 @@ fn is_in_own(track: &Track, number: u32) -> bool
     }
 }
 
-/// The fault of a declaration; without one the name is declared.
+/// The fault of a declaration; without one the name comes into scope.
 fn declare(
     limits: Limits,
-    declared: &mut Vec<u32>,
+    declared: &mut Scoped<u32>,
     number: u32,
 ) -> Result<Option<FileCode>, NoMemory>
-    ensures { IfOk result (λ fault. Declares (counted limits) declared.old.items number declared.new.items fault) }
+    ensures { (before : List items.Item) → AreInScope before declared.old → specs.is_used_behind before ≡ false
+        → IfOk result (λ fault. Declares (counted limits) before number declared.new fault) }
 {
-    let fault = declaration_fault(limits, declared, number);
-    if fault.is_none() {
-        declared.push(number)?;
+    if let Some(fault) = declaration_fault(limits, declared.items(), number) {
+        return Ok(Some(fault));
     }
-    Ok(fault)
+    declared.push(number)?;
+    Ok(None)
+}
+
+/// Goes on behind a sign that is no name, in `main` or before it. A block begins at `main`, and at each brace in it; at its
+/// end its names go out of scope.
+pub(crate) fn follow_blocks(
+    names: &mut Scoped<u32>,
+    in_main: bool,
+    sign: Sign,
+) -> Result<(), NoMemory>
+    ensures { (before : List items.Item) → AreInScope before names.old → in_main ≡ specs.has_main before
+        → is_name sign ≡ false → OnOk result (AreInScopeBehind before sign names.new) }
+{
+    match sign {
+        Sign::Main => { if in_main { Ok(()) } else { names.enter() } }
+        Sign::LeftBrace => { if in_main { names.enter() } else { Ok(()) } }
+        Sign::RightBrace => {
+            names.leave();
+            Ok(())
+        }
+        _ => Ok(()),
+    }
 }
 
 /// The fault of an item behind others that this tells of; without one it is known.
@@ -126,19 +162,23 @@ fn judge(
 {
     match sign {
         Sign::Main => {
+            follow_blocks(&mut known.declared, known.in_main, sign)?;
             known.in_main = true;
             Ok(None)
         }
         Sign::Name(number) => {
             if uses_next(known.in_main, track) {
                 let is_in_own = is_in_own(track, number);
-                Ok(use_fault(is_in_own, &known.declared, number))
+                Ok(use_fault(is_in_own, known.declared.items(), number))
             } else {
                 declare(limits, &mut known.declared, number)
             }
         }
         Sign::Function(number) => known.prototypes.judge(known.in_main, track, number),
-        _ => Ok(None),
+        _ => {
+            follow_blocks(&mut known.declared, known.in_main, sign)?;
+            Ok(None)
+        }
     }
 }
 
@@ -152,7 +192,7 @@ pub(crate) fn first_name_fault(
     ensures { IfOk result (λ fault. fault ≡ specs.first_name_fault (counted limits) items.now) }
 {
     let mut known = Known {
-        declared: Vec::new(alloc),
+        declared: Scoped::new(alloc),
         prototypes: Prototypes::new(alloc),
         in_main: false,
     };

@@ -162,7 +162,7 @@ fn read_over(
     Ok(program)
 }
 
-/// The functions of a file, and its names in their order and how many of them are variables and constants.
+/// The functions of a file, and its names in their order and how many of them are of each class.
 #[tactic(auto, unfolding(crate::specs::Reading::items_of))]
 fn own_names(
     alloc: Global,
@@ -172,7 +172,8 @@ fn own_names(
     ensures own { IsOwn includes bytes.now result }
     ensures distinct { IfOk result (λ own. AreDistinct own.1.names) }
     ensures few { IfOk result (λ own. length own.1.names ≤ FILE_BYTES) }
-    ensures counted { IfOk result (λ own. length own.1.names ≡ own.1.variables + own.1.constants) }
+    ensures counted { IfOk result (λ own. length own.1.names
+        ≡ (own.1.variables + own.1.locals) + own.1.constants) }
     ensures functions { IfOk result (λ own. length own.0 ≤ FILE_BYTES) }
 {
     let code = file_code(alloc, includes, bytes)?;
@@ -190,20 +191,23 @@ fn own_names(
 /// 6.5, 6.7 and 6.8). In `main` a declaration `int x = e;` is read as the assignment `x = e;`, and `int x = input();` as an
 /// input; so is `int x;`, whose value is indeterminate, which is any value (6.7.9p10). A list, as in `int x = 1, y;`, is read
 /// one by one, each at its name. Comments are blanked and `#include <assert.h>` is left out, and where includes are skipped
-/// each other one too. The names of the program are those that the file declares, before `main` and in it, at most 16
-/// variables and behind them at most 16 constants, both in the order of their first declaration, and a name without a start
-/// value starts at 0.
+/// each other one too. The names of the program are those that the file declares: at most 16 variables before `main`, behind
+/// them at most 16 that `main` declares, with `const` or without, and behind these at most 16 constants before `main`, each in
+/// the order of their first declaration, which decides where a name stands. A name without a start value starts at 0. The
+/// declarations of one name in blocks of which none is in another are one name of the program.
 ///
 /// The earliest of these phases that has a fault decides, and in a phase the first place: `TooLong` at 1:1 for more than
 /// 1,048,576 bytes; `OpenComment`, `Splice` and `CommentAtDirective` as `cpp_lines::blank_comments` has them; `Directive`
 /// and `GroupHere` as `cpp_lines::plain_lines` has them; `StrayByte` and `Literal` as `c_tokens::tokens` has them;
 /// `Syntax` at the first token, or the end, at which no file goes on, and `TooDeep` at the first token at which some file
 /// goes on but none within the limits: an `if`, `while` or block with 64 of these around it, or the 65th operator or
-/// opening parenthesis of an expression; and then `Undeclared` at a name that is used where no declaration of it stands
-/// before, or in its own declarator, as in `int x = x;`, since its scope begins behind that (6.2.1); `Twice` at the second
-/// declaration of a name, also where one or both stand in blocks; `TooManyVariables` at the declaration of the 17th variable,
-/// those of `main` among them; `TooManyConstants` at that of the 17th constant; and `ChangedConstant` at a constant that is
-/// changed, which its own initialiser doesn't do. `NoMemory` is want of memory.
+/// opening parenthesis of an expression; and then `Undeclared` at a name that is used where no declaration of it is in scope:
+/// the scope of a name that `main` declares begins behind its declarator, so not in `int x = x;`, and ends with its block, and
+/// that of another goes on to the end of the file (6.2.1); `Twice` at a declaration of a name where another one of it is in
+/// scope, also where one or both stand in blocks; `TooManyVariables` at the declaration of the 17th variable before `main`, or
+/// of the 17th name that `main` declares; `TooManyConstants` at that of the 17th constant before `main`; and `ChangedConstant`
+/// at a name that is changed where a declaration of it as a constant is in scope, which its own initialiser doesn't do.
+/// `NoMemory` is want of memory.
 pub fn read_plain(alloc: Global, includes: Includes, bytes: &[u8]) -> Result<Program, FileRefusal>
     ensures reads { specs.IsRead includes bytes.now result }
     ensures names { IfOk result (λ p. specs.AreDeclaredNames includes bytes.now (whole p).names) }
@@ -217,10 +221,12 @@ pub fn read_plain(alloc: Global, includes: Includes, bytes: &[u8]) -> Result<Pro
     let Arranged {
         names,
         variables,
+        locals,
         constants,
     } = made;
     let limits = Limits {
         variables: variables as u32,
+        locals: locals as u32,
         constants: constants as u32,
     };
     read_over(
@@ -256,6 +262,7 @@ pub fn read_plain_with(
     spells_at_most_one();
     let limits = Limits {
         variables: 0,
+        locals: 0,
         constants: 0,
     };
     read_over(alloc, includes, functions, names, limits, bytes)

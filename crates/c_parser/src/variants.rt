@@ -26,7 +26,8 @@ pub fn families_are_read_once()
     names_are_judged_once();
 }
 
-/// The names of a family are distinct, and there are at most 32: 16 variables, and 16 constants and features together.
+/// The names of a family are distinct, and there are at most 48: 16 variables, 16 that `main` declares, and 16 constants and
+/// features together.
 pub fn family_names_are_few()
     ensures { FamilyNamesAreFew }
 {
@@ -36,9 +37,9 @@ pub fn family_names_are_few()
 /// Preprocessing and then reading is reading and then projecting. What stays of the text of an accepted family spells,
 /// over the family's names, the family's projection, but for the start values of features, for every list of truths of its
 /// conditions: so no variant is deeper than the limits. At a valid configuration that text is read over these names and the
-/// features' values as this program: so no name of a variant has a fault, and each that a variant uses is declared in it
-/// before, in `main` too, behind the end of its declarator. The lines of an accepted family have none either, so
-/// `variant_text` has no refusal but want of memory.
+/// features' values as this program: so no name of a variant has a fault, and of each that a variant uses a declaration is in
+/// scope in it, behind the end of its declarator and before that of its block. The lines of an accepted family have none
+/// either, so `variant_text` has no refusal but want of memory.
 pub fn variants_are_projections()
     ensures spelled { TextsSpellProjections }
     ensures texts { VariantsAreTexts }

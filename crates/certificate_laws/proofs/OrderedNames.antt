@@ -5,7 +5,7 @@ use Rattle.std.specs.Str.{bytes_eq}
 use Rattle.std.proofs.lemmas.Slice.Eq.{bytes_eq-Decides}
 use Rattle.c_parser.specs.Items.{Listed, with_name}
 use Rattle.c_parser.specs.Names.{names_at, each_once}
-use Rattle.c_parser.specs.Order.{variables_of, constants_of, features_of, arranged}
+use Rattle.c_parser.specs.Order.{variables_of, locals_of, constants_of, features_of, arranged}
 use Rattle.certificate_laws.specs.Written.{IsOneLine}
 use Rattle.certificate_laws.proofs.Spelled.{AreLines, with_line}
 use Rattle.certificate_laws.proofs.Trees.{all_both}
@@ -40,5 +40,5 @@ lines_once seen (n ∷ ns) h k = lines_once (with_name seen n) ns (with_line see
 
 pub arranged_lines : (features : List (List ℕ)) (l : Listed) → AreLines l.names → AreLines (arranged features l)
 arranged_lines features l h =
-    all_both IsOneLine (names_at l.names (variables_of features l ++ constants_of features l)) (features_of features l)
-    (lines_at l.names (variables_of features l ++ constants_of features l) h) (lines_once [] (filter (λ f. list_any (bytes_eq f) l.names) features) tt (lines_named l.names features h))
+    let numbers = variables_of features l ++ (locals_of features l ++ constants_of features l) in
+    all_both IsOneLine (names_at l.names numbers) (features_of features l) (lines_at l.names numbers h) (lines_once [] (filter (λ f. list_any (bytes_eq f) l.names) features) tt (lines_named l.names features h))

@@ -8,17 +8,20 @@ use Rattle.fam_outer.specs.declared.faults.FileCode.TheVariants.{Undeclared, Twi
 use Rattle.linear_atoms.specs.declared.atoms.Config.{Config}
 use Rattle.cpp_conditions.specs.declared.models.Model.{Model}
 use Rattle.atom_solver.specs.Solutions.{Finds}
+use Rattle.c_grammar.specs.declared.constants.NameClass.TheVariants as classes
 use Rattle.c_grammar.specs.declared.constants.NameKind.TheVariants as kinds
 use Rattle.c_grammar.specs.declared.items.Item.{Item}
 use Rattle.c_grammar.specs.declared.items.Sign.{Sign}
 use Rattle.c_grammar.specs.declared.items.Sign.TheVariants as signs
 use Rattle.c_grammar.specs.Changes.{is_change, name_at, changed_from, changed_behind, changed_outside, changed_at}
+use Rattle.c_grammar.specs.Classes.{is_class}
 use Rattle.c_grammar.specs.Constants.{is_name, constants_from, last_from}
 use Rattle.c_grammar.specs.Functions.{has_sign}
 use Rattle.c_grammar.specs.Grammar.{at}
 use Rattle.c_grammar.specs.Kept.{kept_from}
 use Rattle.c_grammar.specs.Locals.{is_main, is_declaring, declarations_from, opened_by, open_from, is_open, is_in_own, open_behind, name_of, names_of}
-use Rattle.family_names.specs.Names.{NameContext, IsWithFirst, IsEither, IsUseFault, IsDeclarationFault, IsNameFault, IsChangeOf, IsChangeFault, IsChangeOr, changed_place, IsThisOr, IsFaultFrom, IsFirstNameFault, is_feature, is_value, is_missed, is_met_again, is_met_constant, is_kept, is_among, truths_at, declared_at, constants_at, constants_of, values_of, value_fault, full_fault, new_name_fault, code_with}
+use Rattle.c_grammar.specs.Scopes.{is_open_behind, scoped_from}
+use Rattle.family_names.specs.Names.{NameContext, IsWithFirst, IsEither, IsUseFault, IsDeclarationFault, IsNameFault, IsChangeOf, IsChangeFault, IsChangeOr, changed_place, IsThisOr, IsFaultFrom, IsFirstNameFault, is_feature, is_value, is_missed, is_met_again, is_met_constant, is_kept, is_among, truths_at, in_scope_at, constants_at, constants_of, values_of, value_fault, full_fault, new_name_fault, code_with}
 use Rattle.family_names.proofs.Declared.{among_kept}
 use Rattle.family_names.proofs.Features.{no_value}
 use Rattle.family_generator.proofs.Signs.{laid, header_signs}
@@ -138,6 +141,17 @@ none_declared main declaring (i ∷ is) e =
       | false ↦ ap (λ (ns : List ℕ). ns ++ names_of (declarations_from (main || is_main i.sign) (is_declaring i.sign) is)) split.0 ∙ rest
     ]
 
+-- and none is in scope
+none_scoped : (n : ℕ) (main : Bool) (w : List Item) → names_of w ≡ [] → names_of (scoped_from n main w) ≡ []
+none_scoped n main [] e = refl
+none_scoped n main (i ∷ is) e =
+    let split = none_first (name_of i.sign) (names_of is) e in
+    let rest : names_of (scoped_from n (main || is_main i.sign) is) ≡ [] = none_scoped n (main || is_main i.sign) is split.1 in
+    elim (main && is_name i.sign && not (is_open_behind n is)) as (λ b. names_of (if b then scoped_from n (main || is_main i.sign) is else i ∷ scoped_from n (main || is_main i.sign) is) ≡ []) [
+      | true ↦ rest
+      | false ↦ ap (λ (ns : List ℕ). ns ++ names_of (scoped_from n (main || is_main i.sign) is)) split.0 ∙ rest
+    ]
+
 not_among : (n : ℕ) (truths : List Bool) (w : List Item) → names_of w ≡ [] → is_among n (names_of (kept_from truths [] w)) ≡ false
 not_among n truths w e = elim (is_among n (names_of (kept_from truths [] w))) as (λ b. is_among n (names_of (kept_from truths [] w)) ≡ b → b ≡ false) [
   | true ↦ λ h. (let bad : true ≡ false = sym (among_kept n truths [] w h) ∙ ap (is_among n) e in absurd cc)
@@ -166,7 +180,7 @@ used context f x y z mid fault own one free h =
     let found = subst (use_by context (header f x y ++ mid) z fault) (among_both x y z there one) declared in
     other_one context.model (is_missed context (header f x y ++ mid) z) Undeclared None fault
     (λ values e. (
-    let kept : List ℕ = names_of (kept_from (truths_at context values) [] (declarations_from true false mid)) in
+    let kept : List ℕ = names_of (kept_from (truths_at context values) [] (scoped_from 0 true (declarations_from true false mid))) in
     none_holds (is_kept (truths_at context values) (header f x y ++ mid)) (is_in_own (header f x y ++ mid) z || not (is_among z (x ∷ y ∷ kept)))
     (not_missed (is_in_own (header f x y ++ mid) z) (is_among z (x ∷ y ∷ kept)) (ap (is_open z) (in_none x y mid own)) (among_both x y z kept one)) e)) found
 
@@ -218,8 +232,9 @@ unchanged_by context f x y mid (Some change) code free all own h =
     other_one context.model (is_met_constant context (header f x y ++ mid) change.0) (λ example. ChangedConstant) None code
     (λ values e. (
     let constant : Bool = is_among change.0 (constants_at (truths_at context values) (header f x y ++ mid)) in
-    let none : is_among change.0 (constants_at (truths_at context values) (header f x y ++ mid)) ≡ false =
-    not_among change.0 (truths_at context values) (declarations_from true false (constants_from kinds.Variable mid)) (none_declared true false (constants_from kinds.Variable mid) (no_constant_in x y mid all)) in
+    let constants : List Item = declarations_from true false (constants_from kinds.Variable mid) in
+    let unnamed : names_of constants ≡ [] = none_declared true false (constants_from kinds.Variable mid) (no_constant_in x y mid all) in
+    let none : is_among change.0 (constants_at (truths_at context values) (header f x y ++ mid)) ≡ false = not_among change.0 (truths_at context values) (scoped_from 0 true constants) (none_scoped 0 true constants unnamed) in
     let other : (is_value context change.0 || constant) ≡ false = ap (λ (b : Bool). b || constant) (no_value context change.0 (free_one context x y change.0 free own)) ∙ none in
     none_holds (is_kept (truths_at context values) (header f x y ++ mid)) (is_value context change.0 || constant) other e)) h
 
@@ -239,10 +254,10 @@ behind_header context f x y mid (i ∷ is) fault free all last own h =
 
 -- ---- the header
 
-declared_new : (context : NameContext) (before : List Item) (x : ℕ) (fault : Option FileCode) → IsDeclarationFault context before x fault → ((values : List ℤ) → is_among x (declared_at (truths_at context values) before) ≡ false) → fault ≡ new_name_fault context before x
+declared_new : (context : NameContext) (before : List Item) (x : ℕ) (fault : Option FileCode) → IsDeclarationFault context before x fault → ((values : List ℤ) → is_among x (in_scope_at (truths_at context values) before) ≡ false) → fault ≡ new_name_fault context before x
 declared_new context before x fault h none =
     other_one context.model (is_met_again context before x) Twice (new_name_fault context before x) fault
-    (λ values e. none_holds (is_kept (truths_at context values) before) (is_among x (declared_at (truths_at context values) before)) (none values) e) h
+    (λ values e. none_holds (is_kept (truths_at context values) before) (is_among x (in_scope_at (truths_at context values) before)) (none values) e) h
 
 next_item : (context : NameContext) (before : List Item) (i : Item) (xs : List Item) (fault : Option (FileCode × Place)) → ((code : Option FileCode) → IsNameFault context before i.sign code → code ≡ None) → ((code : Option FileCode) → IsChangeFault context before i code → code ≡ None)
     → IsFaultFrom context before (i ∷ xs) fault → IsFaultFrom context (before ++ i ∷ []) xs fault
@@ -255,7 +270,7 @@ new_by feature again full = cond feature (Some FeatureInCode) (cond again None f
 
 -- where the first name is declared as a variable
 abbrev room : ℕ → Bool → Option FileCode
-room x same = full_fault false 0 (length (cond (not (cond same false false)) (x ∷ []) []))
+room x same = full_fault classes.Variable (length (cond (is_class classes.Variable (cond same classes.Variable classes.Variable)) (x ∷ []) [])) 0
 
 -- the items of the header before one of them, and those from one on
 abbrev front : (ℕ → Place) → ℕ → ℕ → ℕ → List Item

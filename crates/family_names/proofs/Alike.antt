@@ -4,6 +4,7 @@ use Rattle.std.specs.Prelude.{◌+◌, ◌||◌, if◌then◌else◌, nat_le, na
 use Rattle.std.specs.List.{list_any}
 use Rattle.std.specs.Str.{bytes_eq}
 use Rattle.std.proofs.lemmas.Int.{by_lt_z, ints}
+use Rattle.std.proofs.lemmas.List.Elements.{filter_agree}
 use Rattle.std.proofs.lemmas.List.Sums.{sum_by-cons}
 use Rattle.fam_outer.specs.declared.faults.FileCode.{FileCode}
 use Rattle.fam_outer.specs.declared.faults.FileCode.TheVariants.{Undeclared, Twice, FeatureInCode, TooManyValueTests, ChangedConstant, TooManyConstants}
@@ -17,16 +18,13 @@ use Rattle.cpp_conditions.proofs.Within.{valid_parts}
 use Rattle.c_grammar.specs.declared.items.Item.{Item}
 use Rattle.c_grammar.specs.declared.items.Sign.{Sign}
 use Rattle.c_grammar.specs.declared.items.Sign.TheVariants as signs
-use Rattle.c_grammar.specs.declared.constants.NameKind.TheVariants as kinds
 use Rattle.c_grammar.specs.Changes.{changed_at}
-use Rattle.c_grammar.specs.Constants.{is_constant, kind_after}
 use Rattle.c_grammar.specs.Functions.{is_void, is_equals, stands_behind}
 use Rattle.c_grammar.specs.Locals.{is_in_own}
 use Rattle.atom_solver.specs.Solutions.{IsBefore, IsFirst, Finds}
 use Rattle.family_names.specs.Functions.{functions_at, callable_by, callable_at}
 use Rattle.family_names.specs.Laws.{AreAlike, NamesAreJudgedOnce}
-use Rattle.family_names.specs.Names.{NameContext, truths_at, has_main, names_of, declared_by, declared_at, constants_of, variables_of, behind_main, values_of, test_count, is_among, each_once, is_kept, is_missed, is_met_again, is_met_unlike, is_uncallable, is_met_constant, constants_at, is_feature_name, is_feature, feature_in, named_feature, feature_of, is_integer, is_value, width_or_none, value_fault, full_fault, new_name_fault, function_fault, code_with, IsWithFirst, IsEither, is_used_behind, IsUseFault, IsDeclarationFault, IsPrototypeFault, IsCallFault, IsNameFault, IsChangeOf, IsChangeFault, changed_place, IsThisOr, IsChangeOr, IsFaultFrom}
-use Rattle.family_names.proofs.KindsBehind.{filter_same}
+use Rattle.family_names.specs.Names.{NameContext, truths_at, has_main, names_of, declared_by, in_scope_at, names_of_class, class_behind, constants_of, behind_main, values_of, test_count, is_among, each_once, is_kept, is_missed, is_met_again, is_met_unlike, is_uncallable, is_met_constant, constants_at, is_feature_name, is_feature, feature_in, named_feature, feature_of, is_integer, is_value, width_or_none, value_fault, full_fault, new_name_fault, function_fault, code_with, IsWithFirst, IsEither, is_used_behind, IsUseFault, IsDeclarationFault, IsPrototypeFault, IsCallFault, IsNameFault, IsChangeOf, IsChangeFault, changed_place, IsThisOr, IsChangeOr, IsFaultFrom}
 
 -- ---- the first configuration
 
@@ -104,14 +102,14 @@ same_tests a b s (x ∷ xs) =
     ∙ sym (sum_by-cons (λ y. width_or_none (feature_of b y)) x xs)
 
 same_values_of : (a b : NameContext) → AreAlike a b → (items : List Item) → values_of a items ≡ values_of b items
-same_values_of a b s items = ap (each_once []) (filter_same (is_value a) (is_value b) (names_of (behind_main items)) (λ x _. same_value_name a b s x))
+same_values_of a b s items = ap (each_once []) (filter_agree (is_value a) (is_value b) (same_value_name a b s) (names_of (behind_main items)))
 
 same_new : (a b : NameContext) → AreAlike a b → (before : List Item) (x : ℕ) → new_name_fault a before x ≡ new_name_fault b before x
 same_new a b s before x =
     ap (λ (f : Bool). if f then Some FeatureInCode else (if is_among x (declared_by before) then None
-    else full_fault (is_constant (kind_after kinds.Variable before)) (length (constants_of before) + length (values_of a before)) (length (variables_of before)))) (same_feature a b s x)
+    else full_fault (class_behind before) (length (names_of_class (class_behind before) before)) (length (values_of a before)))) (same_feature a b s x)
     ∙ ap (λ (ns : List ℕ). if is_feature b x then Some FeatureInCode else (if is_among x (declared_by before) then None
-    else full_fault (is_constant (kind_after kinds.Variable before)) (length (constants_of before) + length ns) (length (variables_of before)))) (same_values_of a b s before)
+    else full_fault (class_behind before) (length (names_of_class (class_behind before) before)) (length ns))) (same_values_of a b s before)
 
 same_value_fault : (a b : NameContext) → AreAlike a b → (before : List Item) (x : ℕ)
     → value_fault a (values_of a before) (length (constants_of before)) x ≡ value_fault b (values_of b before) (length (constants_of before)) x
@@ -122,10 +120,10 @@ same_value_fault a b s before x =
     (same_tests a b s (values_of b before ++ x ∷ []))
 
 same_missed : (a b : NameContext) → AreAlike a b → (before : List Item) (x : ℕ) (values : List ℤ) → is_missed a before x values ≡ is_missed b before x values
-same_missed a b s before x values = ap (λ (ts : List Bool). is_kept ts before && (is_in_own before x || not (is_among x (declared_at ts before)))) (s.truths values)
+same_missed a b s before x values = ap (λ (ts : List Bool). is_kept ts before && (is_in_own before x || not (is_among x (in_scope_at ts before)))) (s.truths values)
 
 same_met : (a b : NameContext) → AreAlike a b → (before : List Item) (x : ℕ) (values : List ℤ) → is_met_again a before x values ≡ is_met_again b before x values
-same_met a b s before x values = ap (λ (ts : List Bool). is_kept ts before && is_among x (declared_at ts before)) (s.truths values)
+same_met a b s before x values = ap (λ (ts : List Bool). is_kept ts before && is_among x (in_scope_at ts before)) (s.truths values)
 
 same_unlike : (a b : NameContext) → AreAlike a b → (before : List Item) (k : ℕ) (values : List ℤ) → is_met_unlike a before k values ≡ is_met_unlike b before k values
 same_unlike a b s before k values = ap (λ (ts : List Bool). is_kept ts before && is_among k (functions_at ts (not (stands_behind is_void before)) before)) (s.truths values)

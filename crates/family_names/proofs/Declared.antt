@@ -1,4 +1,4 @@
--- What is declared behind one item more.
+-- What is declared and what is in scope behind one item more.
 use Rattle.std.proofs.Common.{◌≡◌, ℕ, Bool, true, false, not, ◌&&◌, nat_eq, List, [], ◌∷◌, ◌++◌, refl, sym, ap, ◌∙◌, append_assoc, append-nil}
 use Rattle.std.specs.Prelude.{◌||◌, if◌then◌else◌}
 use Rattle.std.proofs.lemmas.List.Folds.{list_any-append}
@@ -13,12 +13,15 @@ use Rattle.c_grammar.specs.Constants.{is_name}
 use Rattle.c_grammar.specs.Grammar.{at, is_group}
 use Rattle.c_grammar.specs.Kept.{directive_of, kept, kept_from}
 use Rattle.c_grammar.specs.Locals.{is_declaring, declarations_from, of_declarations}
+use Rattle.c_grammar.specs.Scopes.{is_open_behind, scoped_from, still_in_scope}
 use Rattle.c_grammar.proofs.Declaring.{declarations_more}
 use Rattle.family_names.specs.declared.declarations.Declaration.{Declaration}
 use Rattle.family_names.specs.declared.groups.Group.{Group}
+use Rattle.family_names.specs.Blocks.{still_at, is_shown, left_before, with_shown}
 use Rattle.family_names.specs.Declarations.{is_kept as declaration_kept, is_declared}
-use Rattle.family_names.specs.Groups.{sections, are_kept}
-use Rattle.family_names.specs.Names.{is_main, has_main, name_of, names_of, declared_by, declared_at, is_among, with_number, each_once, sections_behind, is_kept, is_used_behind}
+use Rattle.family_names.specs.Groups.{sections}
+use Rattle.family_names.specs.Names.{is_main, has_main, name_of, names_of, declared_by, is_among, with_number, each_once, sections_behind, is_kept, is_used_behind}
+use Rattle.family_names.proofs.Blocks.{other_in_scope, name_in_scope}
 
 -- ---- truths
 
@@ -85,6 +88,12 @@ out_is_name false s e = absurd cc
 out_is_name true (signs.Name n) e = (n, refl)
 out_is_name true _ e = absurd cc
 
+-- so it is of a name whose block is left
+ended_name : (a b c : Bool) (s : Sign) → b ≡ is_name s → (a && b && c) ≡ true → (n : ℕ) × (s ≡ signs.Name n)
+ended_name a true c s e h = out_is_name true s (sym e)
+ended_name true false c s e h = absurd cc
+ended_name false false c s e h = absurd cc
+
 from_sections : (truths : List Bool) (ss : List Section) (main declaring : Bool) (before : List Item) → sections_behind truths ss (declarations_from main declaring before) ≡ sections_behind truths ss before
 from_sections truths ss main declaring [] = refl
 from_sections truths ss main declaring (y ∷ ys) =
@@ -99,29 +108,53 @@ from_sections truths ss main declaring (y ∷ ys) =
 of_sections : (truths : List Bool) (before : List Item) → sections_behind truths [] (of_declarations before) ≡ sections_behind truths [] before
 of_sections truths before = from_sections truths [] false false before
 
--- ---- what is declared behind some items and one more
+-- so they are the same for scopes
+scoped_sections : (truths : List Bool) (ss : List Section) (n : ℕ) (main : Bool) (before : List Item) → sections_behind truths ss (scoped_from n main before) ≡ sections_behind truths ss before
+scoped_sections truths ss n main [] = refl
+scoped_sections truths ss n main (y ∷ ys) =
+    let m = main || is_main y.sign in
+    elim (main && is_name y.sign && not (is_open_behind n ys)) as (λ t. (main && is_name y.sign && not (is_open_behind n ys)) ≡ t
+    → sections_behind truths ss (if t then scoped_from n (main || is_main y.sign) ys else y ∷ scoped_from n (main || is_main y.sign) ys) ≡ sections_behind truths (sections_after truths ss (directive_of y.sign)) ys) [
+      | true ↦ λ e. scoped_sections truths ss n m ys ∙ sym (ap (λ (s : Sign). sections_behind truths (sections_after truths ss (directive_of s)) ys) (ended_name main (is_name y.sign) (not (is_open_behind n ys)) y.sign refl e).1)
+      | false ↦ λ e. scoped_sections truths (sections_after truths ss (directive_of y.sign)) n m ys
+    ] refl
+
+-- ---- what is declared behind some items and one more, and what is in scope
 
 pub record AreMore (before : List Item) (x : Item) : Type 0 where
   pub any : declared_by (before ++ x ∷ []) ≡ declared_by before ++ name_of x.sign
-  pub kept : (truths : List Bool) → declared_at truths (before ++ x ∷ []) ≡ declared_at truths before ++ names_of (kept_from truths (sections_behind truths [] before) (x ∷ []))
+  pub kept : (n : ℕ) (truths : List Bool) → still_at n truths (before ++ x ∷ []) ≡ still_at n truths before ++ (if is_shown n (has_main before) then names_of (kept_from truths (sections_behind truths [] before) (x ∷ [])) else [])
 
 pub record AreStill (before : List Item) (x : Item) : Type 0 where
   pub any : declared_by (before ++ x ∷ []) ≡ declared_by before
-  pub kept : (truths : List Bool) → declared_at truths (before ++ x ∷ []) ≡ declared_at truths before
+  pub kept : (n : ℕ) (truths : List Bool) → still_at n truths (before ++ x ∷ []) ≡ still_at (left_before x.sign (has_main before) n) truths before
 
-more_declared : (before : List Item) (x : Item) → (is_used_behind before && is_name x.sign) ≡ false → AreMore before x
+-- an item that is no name that is used
+more_declared : (before : List Item) (x : Item) → (is_used_behind before && is_name x.sign) ≡ false → declared_by (before ++ x ∷ []) ≡ declared_by before ++ name_of x.sign
 more_declared before x h =
-    let u : of_declarations (before ++ x ∷ []) ≡ of_declarations before ++ x ∷ [] = of_more before x ∙ ap (λ (b : Bool). of_declarations before ++ (if b then [] else x ∷ [])) h in
-    record {
-      any = ap names_of u ∙ names_append (of_declarations before) (x ∷ []) ∙ ap (λ (ns : List ℕ). names_of (of_declarations before) ++ ns) (append-nil (name_of x.sign));
-      kept = λ truths. ap (λ (ys : List Item). names_of (kept truths ys)) u ∙ ap names_of (kept_append truths [] (of_declarations before) (x ∷ []))
-          ∙ names_append (kept truths (of_declarations before)) (kept_from truths (sections_behind truths [] (of_declarations before)) (x ∷ []))
-          ∙ ap (λ (ss : List Section). declared_at truths before ++ names_of (kept_from truths ss (x ∷ []))) (of_sections truths before);
-    }
+    ap names_of (of_more before x ∙ ap (λ (b : Bool). of_declarations before ++ (if b then [] else x ∷ [])) h) ∙ names_append (of_declarations before) (x ∷ []) ∙ ap (λ (ns : List ℕ). names_of (of_declarations before) ++ ns) (append-nil (name_of x.sign))
+
+-- the names among these and others behind them that are kept where so many more blocks are left
+kept_more : (truths : List Bool) (before xs : List Item) (n : ℕ) → names_of (kept truths (still_in_scope n before ++ xs)) ≡ still_at n truths before ++ names_of (kept_from truths (sections_behind truths [] before) xs)
+kept_more truths before xs n =
+    ap names_of (kept_append truths [] (still_in_scope n before) xs) ∙ names_append (kept truths (still_in_scope n before)) (kept_from truths (sections_behind truths [] (still_in_scope n before)) xs)
+    ∙ ap (λ (ss : List Section). still_at n truths before ++ names_of (kept_from truths ss xs)) (scoped_sections truths [] n false (of_declarations before) ∙ of_sections truths before)
+
+kept_if : (b : Bool) (truths : List Bool) (ss : List Section) (xs : List Item) → names_of (kept_from truths ss (if b then xs else [])) ≡ (if b then names_of (kept_from truths ss xs) else [])
+kept_if true truths ss xs = refl
+kept_if false truths ss xs = refl
 
 -- a name that is declared
 pub more_named : (before : List Item) (p : Place) (n : ℕ) → is_used_behind before ≡ false → AreMore before (at p (signs.Name n))
-more_named before p n h = more_declared before (at p (signs.Name n)) (and_true (is_used_behind before) ∙ h)
+more_named before p x h =
+    let one : List Item = at p (signs.Name x) ∷ [] in
+    record {
+      any = more_declared before (at p (signs.Name x)) (and_true (is_used_behind before) ∙ h);
+      kept = λ n truths.
+          let b : Bool = is_shown n (has_main before) in
+          ap (λ (ys : List Item). names_of (kept truths ys)) (name_in_scope before p x n h) ∙ kept_more truths before (if b then one else []) n
+          ∙ ap (λ (ns : List ℕ). still_at n truths before ++ ns) (kept_if b truths (sections_behind truths [] before) one);
+    }
 
 -- a name that is used
 pub still_used : (before : List Item) (p : Place) (n : ℕ) → is_used_behind before ≡ true → AreStill before (at p (signs.Name n))
@@ -130,7 +163,7 @@ still_used before p n h =
     of_more before (at p (signs.Name n)) ∙ ap (λ (b : Bool). of_declarations before ++ (if b then [] else at p (signs.Name n) ∷ [])) (and_true (is_used_behind before) ∙ h) ∙ append-nil (of_declarations before) in
     record {
       any = ap names_of u;
-      kept = λ truths. ap (λ (ys : List Item). names_of (kept truths ys)) u;
+      kept = λ left truths. ap (λ (ys : List Item). names_of (kept truths (scoped_from left false ys))) u;
     }
 
 pub no_names : (truths : List Bool) (ss : List Section) (x : Item) → name_of x.sign ≡ [] → names_of (kept_from truths ss (x ∷ [])) ≡ []
@@ -143,10 +176,13 @@ not_name _ e = refl
 -- an item that is no name
 pub still_other : (before : List Item) (x : Item) → name_of x.sign ≡ [] → AreStill before x
 still_other before x e =
-    let k = more_declared before x (ap (λ (b : Bool). is_used_behind before && b) (not_name x.sign e) ∙ and_false (is_used_behind before)) in
+    let other : is_name x.sign ≡ false = not_name x.sign e in
     record {
-      any = k.any ∙ ap (λ (ns : List ℕ). declared_by before ++ ns) e ∙ append-nil (declared_by before);
-      kept = λ truths. k.kept truths ∙ ap (λ (ns : List ℕ). declared_at truths before ++ ns) (no_names truths (sections_behind truths [] before) x e) ∙ append-nil (declared_at truths before);
+      any = more_declared before x (ap (λ (b : Bool). is_used_behind before && b) other ∙ and_false (is_used_behind before)) ∙ ap (λ (ns : List ℕ). declared_by before ++ ns) e ∙ append-nil (declared_by before);
+      kept = λ n truths.
+          let left : ℕ = left_before x.sign (has_main before) n in
+          ap (λ (ys : List Item). names_of (kept truths ys)) (other_in_scope before x n other) ∙ kept_more truths before (x ∷ []) left
+          ∙ ap (λ (ns : List ℕ). still_at left truths before ++ ns) (no_names truths (sections_behind truths [] before) x e) ∙ append-nil (still_at left truths before);
     }
 
 -- ---- names, each once
@@ -187,24 +223,46 @@ among_kept x truths ss (y ∷ ys) h =
       | false ↦ λ g. or_right (is_among x (name_of y.sign)) (is_among x (names_of ys)) (among_kept x truths (sections_after truths ss (directive_of y.sign)) ys g)
     ] h
 
+-- and so are the names that are in scope
+among_scoped : (x n : ℕ) (main : Bool) (w : List Item) → is_among x (names_of (scoped_from n main w)) ≡ true → is_among x (names_of w) ≡ true
+among_scoped x n main [] h = h
+among_scoped x n main (y ∷ ys) h =
+    let m = main || is_main y.sign in
+    list_any-append (nat_eq x) (name_of y.sign) (names_of ys) ∙
+    elim (main && is_name y.sign && not (is_open_behind n ys)) as (λ t. is_among x (names_of (if t then scoped_from n (main || is_main y.sign) ys else y ∷ scoped_from n (main || is_main y.sign) ys)) ≡ true → (is_among x (name_of y.sign) || is_among x (names_of ys)) ≡ true) [
+      | true ↦ λ g. or_right (is_among x (name_of y.sign)) (is_among x (names_of ys)) (among_scoped x n m ys g)
+      | false ↦ λ g. or_more (is_among x (name_of y.sign)) (is_among x (names_of (scoped_from n m ys))) (is_among x (names_of ys)) (among_scoped x n m ys)
+          (sym (list_any-append (nat_eq x) (name_of y.sign) (names_of (scoped_from n m ys))) ∙ g)
+    ] h
+
+pub still_declared : (x n : ℕ) (truths : List Bool) (before : List Item) → is_among x (still_at n truths before) ≡ true → is_among x (declared_by before) ≡ true
+still_declared x n truths before h = among_scoped x n false (of_declarations before) (among_kept x truths [] (still_in_scope n before) h)
+
 -- ---- declarations as they are kept
 
 -- a declaration more
-pub kept_name : (truths : List Bool) (before : List Item) (p : Place) (x y : ℕ) → is_among y (names_of (kept_from truths (sections_behind truths [] before) (at p (signs.Name x) ∷ []))) ≡ (nat_eq y x && is_kept truths before)
+kept_name : (truths : List Bool) (before : List Item) (p : Place) (x y : ℕ) → is_among y (names_of (kept_from truths (sections_behind truths [] before) (at p (signs.Name x) ∷ []))) ≡ (nat_eq y x && is_kept truths before)
 kept_name truths before p x y = elim (all_kept (sections_behind truths [] before)) as (λ t. is_among y (names_of (if t then at p (signs.Name x) ∷ [] else [])) ≡ (nat_eq y x && t)) [
   | true ↦ or_false (nat_eq y x) ∙ sym (and_true (nat_eq y x))
   | false ↦ sym (and_false (nat_eq y x))
 ]
 
+-- where it is shown, the names in scope and those of a list are more by it
+shown_more : (shown : Bool) (truths : List Bool) (y : ℕ) (ds : List Declaration) (d : Declaration) (xs one : List ℕ) → is_declared truths ds y ≡ is_among y xs → declaration_kept truths y d ≡ is_among y one
+    → is_declared truths (with_shown shown ds d) y ≡ is_among y (xs ++ (if shown then one else []))
+shown_more true truths y ds d xs one known same =
+    list_any-append (λ (c : Declaration). declaration_kept truths y c) ds (d ∷ [])
+    ∙ ap (λ (b : Bool). is_declared truths ds y || b) (or_false (declaration_kept truths y d) ∙ same)
+    ∙ ap (λ (b : Bool). b || is_among y one) known
+    ∙ sym (list_any-append (nat_eq y) xs one)
+shown_more false truths y ds d xs one known same = known ∙ ap (is_among y) (sym (append-nil xs))
+
 -- so it is of a list of declarations, and of one more in the groups that stand here
-pub one_more : (before : List Item) (p : Place) (x : ℕ) (ds : List Declaration) (groups : List Group) → is_used_behind before ≡ false → ((truths : List Bool) → sections truths groups ≡ sections_behind truths [] before)
-    → ((truths : List Bool) (y : ℕ) → is_declared truths ds y ≡ is_among y (declared_at truths before)) → (truths : List Bool) (y : ℕ)
-    → is_declared truths (ds ++ record { name = x; groups = groups } ∷ []) y ≡ is_among y (declared_at truths (before ++ at p (signs.Name x) ∷ []))
-one_more before p x ds groups h same known truths y =
-    let m = more_named before p x h in
-    list_any-append (λ (d : Declaration). declaration_kept truths y d) ds (record { name = x; groups = groups } ∷ [])
-    ∙ ap (λ (b : Bool). is_declared truths ds y || b) (or_false (nat_eq y x && are_kept truths groups))
-    ∙ ap (λ (ss : List Section). is_declared truths ds y || (nat_eq y x && all_kept ss)) (same truths)
-    ∙ ap (λ (b : Bool). b || (nat_eq y x && is_kept truths before)) (known truths y)
-    ∙ sym (ap (is_among y) (m.kept truths) ∙ list_any-append (nat_eq y) (declared_at truths before) (names_of (kept_from truths (sections_behind truths [] before) (at p (signs.Name x) ∷ [])))
-    ∙ ap (λ (b : Bool). is_among y (declared_at truths before) || b) (kept_name truths before p x y))
+pub one_more : (before : List Item) (p : Place) (x n : ℕ) (ds : List Declaration) (groups : List Group) → is_used_behind before ≡ false → ((truths : List Bool) → sections truths groups ≡ sections_behind truths [] before)
+    → ((truths : List Bool) (y : ℕ) → is_declared truths ds y ≡ is_among y (still_at n truths before)) → (truths : List Bool) (y : ℕ)
+    → is_declared truths (with_shown (is_shown n (has_main before)) ds (record { name = x; groups = groups })) y ≡ is_among y (still_at n truths (before ++ at p (signs.Name x) ∷ []))
+one_more before p x n ds groups h same known truths y =
+    let one : List ℕ = names_of (kept_from truths (sections_behind truths [] before) (at p (signs.Name x) ∷ [])) in
+    shown_more (is_shown n (has_main before)) truths y ds (record { name = x; groups = groups }) (still_at n truths before) one (known truths y)
+    (ap (λ (ss : List Section). nat_eq y x && all_kept ss) (same truths) ∙ sym (kept_name truths before p x y))
+    ∙ ap (is_among y) (sym ((more_named before p x h).kept n truths))

@@ -13,24 +13,27 @@ use Rattle.c_grammar.specs.declared.constants.NameKind.TheVariants as kinds
 use Rattle.c_grammar.specs.declared.items.Item.{Item}
 use Rattle.c_grammar.specs.declared.items.Sign.{Sign}
 use Rattle.c_grammar.specs.declared.items.Sign.TheVariants as signs
+use Rattle.c_grammar.specs.declared.scoped.Scoped.{Scoped}
 use Rattle.c_grammar.specs.Changes.{changed_at, IsTrack}
 use Rattle.c_grammar.specs.Constants.{is_name, is_constant, kind_behind, kind_after, constants_from, of_constants}
 use Rattle.c_grammar.specs.Functions.{has_sign}
 use Rattle.c_grammar.specs.Grammar.{at}
 use Rattle.c_grammar.specs.Kept.{directive_of}
 use Rattle.c_grammar.specs.Locals.{is_declaring, declares_behind}
+use Rattle.c_grammar.specs.Scoped.{still}
 use Rattle.c_grammar.proofs.Declaring.{last_of_constants}
 use Rattle.family_names.specs.declared.constants.Constants.{Constants}
 use Rattle.family_names.specs.declared.declarations.Declaration.{Declaration}
-use Rattle.family_names.specs.declared.faults.Seen.{Seen}
+use Rattle.family_names.specs.declared.seen.Seen.{Seen}
 use Rattle.family_names.specs.declared.groups.Group.{Group}
+use Rattle.family_names.specs.Blocks.{still_at, is_shown, left_before, with_shown}
 use Rattle.family_names.specs.Declarations.{is_declared, has_one}
 use Rattle.family_names.specs.Groups.{sections, are_kept}
-use Rattle.family_names.specs.Names.{NameContext, truths_at, is_main, has_main, name_of, declared_at, constants_at, is_among, sections_behind, is_kept, is_value, is_met_constant, code_with, IsEither, is_used_behind, IsChangeOf, IsChangeFault, place_or}
+use Rattle.family_names.specs.Names.{NameContext, truths_at, is_main, has_main, name_of, constants_at, is_among, sections_behind, is_kept, is_value, is_met_constant, code_with, IsEither, is_used_behind, IsChangeOf, IsChangeFault, place_or}
 use Rattle.family_names.specs.Judging as judging
-use Rattle.family_names.specs.Judging.{IsSeen, AreHeld, IsChange, with_constant}
+use Rattle.family_names.specs.Judging.{IsSeen, AreHeld, FollowsConstants, IsChange, with_constant}
 use Rattle.family_names.proofs.Answering.{found_same}
-use Rattle.family_names.proofs.Declared.{still_used, still_other, one_more}
+use Rattle.family_names.proofs.Declared.{main_on, still_used, still_other, one_more}
 
 -- ---- the items without the names of variables
 
@@ -89,41 +92,50 @@ name_or_nothing : (s : Sign) → ((n : ℕ) × (s ≡ signs.Name n)) ⊎ NamesNo
 name_or_nothing (signs.Name n) = inl (n, refl)
 name_or_nothing s = inr (record { no_name = refl; other = refl; adds_none = λ ds b gs. names_none ds b gs s refl })
 
--- what is known of declarations, and what stands as declared
-abbrev Tells : List Declaration → List Item → Type 0
-Tells ds items = (truths : List Bool) (y : ℕ) → is_declared truths ds y ≡ is_among y (declared_at truths items)
+-- what is known of declarations, and what is in scope where so many more blocks are left
+abbrev Tells : ℕ → List Declaration → List Item → Type 0
+Tells n ds items = (truths : List Bool) (y : ℕ) → is_declared truths ds y ≡ is_among y (still_at n truths items)
+
+-- the declarations behind one item more, which is a constant's name or not
+abbrev behind_one : Scoped Declaration → Bool → List Group → Bool → Sign → ℕ → List Declaration
+behind_one old constant groups main sign n = with_constant (still (left_before sign main n) old) (constant && is_shown n main) groups sign
 
 -- an item that names nothing
-nothing_more : (before : List Item) (x : Item) (ds : List Declaration) → NamesNothing x.sign → Tells ds before → Tells ds (before ++ x ∷ [])
-nothing_more before x ds n h truths y = h truths y ∙ ap (is_among y) (sym ((still_other before x n.no_name).kept truths))
+nothing_more : (before : List Item) (x : Item) (n : ℕ) (old : Scoped Declaration) → name_of x.sign ≡ [] → ((m : ℕ) → Tells m (still m old) before) → Tells n (still (left_before x.sign (has_main before) n) old) (before ++ x ∷ [])
+nothing_more before x n old e h truths y = h (left_before x.sign (has_main before) n) truths y ∙ ap (is_among y) (sym ((still_other before x e).kept n truths))
+
+as_shown : (b : Bool) (ds : List Declaration) (groups : List Group) (x : ℕ) → with_constant ds b groups (signs.Name x) ≡ with_shown b ds (record { name = x; groups = groups })
+as_shown true ds groups x = refl
+as_shown false ds groups x = refl
 
 -- a constant's name, which is used or declared
-constant_more : (before : List Item) (p : Place) (n : ℕ) (ds : List Declaration) (groups : List Group) (used : Bool) → is_used_behind before ≡ used → ((truths : List Bool) → sections truths groups ≡ sections_behind truths [] before) → Tells ds before
-    → Tells (with_constant ds (not used) groups (signs.Name n)) (before ++ at p (signs.Name n) ∷ [])
-constant_more before p n ds groups true u same h truths y = h truths y ∙ ap (is_among y) (sym ((still_used before p n u).kept truths))
-constant_more before p n ds groups false u same h truths y = one_more before p n ds groups u same h truths y
+constant_more : (before : List Item) (p : Place) (x n : ℕ) (ds : List Declaration) (groups : List Group) (used : Bool) → is_used_behind before ≡ used → ((truths : List Bool) → sections truths groups ≡ sections_behind truths [] before) → Tells n ds before
+    → Tells n (with_constant ds (not used && is_shown n (has_main before)) groups (signs.Name x)) (before ++ at p (signs.Name x) ∷ [])
+constant_more before p x n ds groups true u same h truths y = h truths y ∙ ap (is_among y) (sym ((still_used before p x u).kept n truths))
+constant_more before p x n ds groups false u same h truths y =
+    ap (λ (es : List Declaration). is_declared truths es y) (as_shown (is_shown n (has_main before)) ds groups x) ∙ one_more before p x n ds groups u same h truths y
 
 -- a name, a constant's or not
-name_more : (before : List Item) (p : Place) (n : ℕ) (ds : List Declaration) (groups : List Group) (kind : NameKind) (used : Bool) → (is_constant kind ≡ true → is_used_behind before ≡ used) → ((truths : List Bool) → sections truths groups ≡ sections_behind truths [] before) → Tells ds before
-    → Tells (with_constant ds (is_constant kind && not used) groups (signs.Name n)) (before ++ constants_from kind (at p (signs.Name n) ∷ []))
-name_more before p n ds groups kinds.Constant used u same h truths y = constant_more before p n ds groups used (u refl) same h truths y
-name_more before p n ds groups kinds.Defined used u same h truths y = constant_more before p n ds groups used (u refl) same h truths y
-name_more before p n ds groups kinds.Variable used u same h truths y = h truths y ∙ ap (λ (ys : List Item). is_among y (declared_at truths ys)) (sym (append-nil before))
+name_more : (before : List Item) (p : Place) (x n : ℕ) (ds : List Declaration) (groups : List Group) (kind : NameKind) (used : Bool) → (is_constant kind ≡ true → is_used_behind before ≡ used) → ((truths : List Bool) → sections truths groups ≡ sections_behind truths [] before) → Tells n ds before
+    → Tells n (with_constant ds ((is_constant kind && not used) && is_shown n (has_main before)) groups (signs.Name x)) (before ++ constants_from kind (at p (signs.Name x) ∷ []))
+name_more before p x n ds groups kinds.Constant used u same h truths y = constant_more before p x n ds groups used (u refl) same h truths y
+name_more before p x n ds groups kinds.Defined used u same h truths y = constant_more before p x n ds groups used (u refl) same h truths y
+name_more before p x n ds groups kinds.Variable used u same h truths y = h truths y ∙ ap (λ (ys : List Item). is_among y (still_at n truths ys)) (sym (append-nil before))
 
 pub kept_in : (kind : NameKind) (x : Item) (xs : List Item) → is_name x.sign ≡ false → constants_from kind (x ∷ xs) ≡ x ∷ constants_from (kind_behind kind x.sign) xs
 kept_in kinds.Constant x xs e = refl
 kept_in kinds.Defined x xs e = refl
 kept_in kinds.Variable x xs e = ap (λ (t : Bool). if not t then x ∷ constants_from (kind_behind kinds.Variable x.sign) xs else constants_from (kind_behind kinds.Variable x.sign) xs) e
 
-item_more : (before : List Item) (x : Item) (ds : List Declaration) (groups : List Group) (kind : NameKind) (used : Bool) → (is_constant kind ≡ true → is_used_behind before ≡ used) → ((truths : List Bool) → sections truths groups ≡ sections_behind truths [] before) → Tells ds before
-    → Tells (with_constant ds (is_constant kind && not used) groups x.sign) (before ++ constants_from kind (x ∷ []))
-item_more before x ds groups kind used u same h = elim (name_or_nothing x.sign) [
-  | inl e ↦ subst (λ (y : Item). Tells (with_constant ds (is_constant kind && not used) groups y.sign) (before ++ constants_from kind (y ∷ [])))
-      (ap (λ (s : Sign). at x.place s) (sym e.1)) (name_more before x.place e.0 ds groups kind used u same h)
-  | inr n ↦ λ truths y.
-      ap (λ (es : List Declaration). is_declared truths es y) (n.adds_none ds (is_constant kind && not used) groups)
-      ∙ nothing_more before x ds n h truths y
-      ∙ ap (λ (ys : List Item). is_among y (declared_at truths (before ++ ys))) (sym (kept_in kind x [] n.other))
+item_more : (before : List Item) (x : Item) (old : Scoped Declaration) (groups : List Group) (kind : NameKind) (used : Bool) → (is_constant kind ≡ true → is_used_behind before ≡ used) → ((truths : List Bool) → sections truths groups ≡ sections_behind truths [] before) → ((n : ℕ) → Tells n (still n old) before)
+    → (n : ℕ) → Tells n (behind_one old (is_constant kind && not used) groups (has_main before) x.sign n) (before ++ constants_from kind (x ∷ []))
+item_more before x old groups kind used u same h n = elim (name_or_nothing x.sign) [
+  | inl e ↦ subst (λ (y : Item). Tells n (behind_one old (is_constant kind && not used) groups (has_main before) y.sign n) (before ++ constants_from kind (y ∷ [])))
+      (ap (λ (s : Sign). at x.place s) (sym e.1)) (name_more before x.place e.0 n (still n old) groups kind used u same (h n))
+  | inr e ↦ λ truths y.
+      ap (λ (es : List Declaration). is_declared truths es y) (e.adds_none (still (left_before x.sign (has_main before) n) old) ((is_constant kind && not used) && is_shown n (has_main before)) groups)
+      ∙ nothing_more before x n old e.no_name h truths y
+      ∙ ap (λ (ys : List Item). is_among y (still_at n truths (before ++ ys))) (sym (kept_in kind x [] e.other))
 ]
 
 -- whether the name is a constant's, as the code asks
@@ -134,29 +146,33 @@ pub is_not_asked : (a b c : Bool) → a ≡ false → c ≡ a → c ≡ (a && no
 is_not_asked a b c e h = h ∙ e ∙ sym (ap (λ (t : Bool). t && not b) e)
 
 pub held_more : (before : List Item) (x : Item) (old new : Constants) (seen : Seen) (constant used : Bool) → IsSeen before seen → AreHeld before old → IsTrack (before ++ x ∷ []) new.track → constant ≡ is_constant (kind_after kinds.Variable before) → used ≡ is_used_behind before
-    → new.declarations.items ≡ with_constant old.declarations.items (constant && not used) seen.groups x.sign → AreHeld (before ++ x ∷ []) new
-held_more before x old new seen constant used k h track is is_used declarations =
+    → FollowsConstants old.declarations (constant && not used) seen.groups seen.in_main x.sign new.declarations → AreHeld (before ++ x ∷ []) new
+held_more before x old new seen constant used k h track is is_used f =
     let kind : NameKind = kind_after kinds.Variable before in
-    let more : Tells (with_constant old.declarations.items (is_constant kind && not (is_used_behind before)) seen.groups x.sign) (of_constants before ++ constants_from kind (x ∷ [])) =
-    item_more (of_constants before) x old.declarations.items seen.groups kind (is_used_behind before) (used_same before)
+    let behind : List Item = of_constants before in
+    let more : (n : ℕ) → Tells n (behind_one old.declarations (is_constant kind && not (is_used_behind before)) seen.groups (has_main behind) x.sign n) (behind ++ constants_from kind (x ∷ [])) =
+    item_more behind x old.declarations seen.groups kind (is_used_behind before) (used_same before)
     (λ truths. k.groups truths ∙ sym (from_sections truths [] kinds.Variable before)) h.declarations in
     record {
       track = track;
-      declarations = λ truths y.
+      sound = f.sound;
+      inside = f.inside ∙ ap (λ (b : Bool). b || is_main x.sign) k.main ∙ sym (main_on before x);
+      declarations = λ n truths y.
           ap (λ (ds : List Declaration). is_declared truths ds y)
-          (declarations ∙ ap (λ (b : Bool). with_constant old.declarations.items (b && not used) seen.groups x.sign) is
-          ∙ ap (λ (b : Bool). with_constant old.declarations.items (is_constant kind && not b) seen.groups x.sign) is_used)
-          ∙ more truths y
-          ∙ ap (λ (ys : List Item). is_among y (declared_at truths ys)) (sym (from_more kinds.Variable before x));
+          (f.still_is n ∙ ap (λ (b : Bool). behind_one old.declarations (b && not used) seen.groups seen.in_main x.sign n) is
+          ∙ ap (λ (b : Bool). behind_one old.declarations (is_constant kind && not b) seen.groups seen.in_main x.sign n) is_used
+          ∙ ap (λ (b : Bool). behind_one old.declarations (is_constant kind && not (is_used_behind before)) seen.groups b x.sign n) (k.main ∙ sym (from_main kinds.Variable before)))
+          ∙ more n truths y
+          ∙ ap (λ (ys : List Item). is_among y (still_at n truths ys)) (sym (from_more kinds.Variable before x));
     }
 
 -- ---- what an item changes
 
 met_same : (context : NameContext) (before : List Item) (seen : Seen) (constants : Constants) (x : ℕ) → IsSeen before seen → AreHeld before constants → (values : List ℤ)
-    → judging.is_met_constant context seen.groups constants.declarations.items x values ≡ is_met_constant context before x values
+    → judging.is_met_constant context seen.groups (still 0 constants.declarations) x values ≡ is_met_constant context before x values
 met_same context before seen constants x k h values =
-    ap (λ (ss : List Section). all_kept ss && (is_value context x || is_declared (truths_at context values) constants.declarations.items x)) (k.groups (truths_at context values))
-    ∙ ap (λ (b : Bool). is_kept (truths_at context values) before && (is_value context x || b)) (h.declarations (truths_at context values) x)
+    ap (λ (ss : List Section). all_kept ss && (is_value context x || is_declared (truths_at context values) (still 0 constants.declarations) x)) (k.groups (truths_at context values))
+    ∙ ap (λ (b : Bool). is_kept (truths_at context values) before && (is_value context x || b)) (h.declarations 0 (truths_at context values) x)
 
 or_first : (a b : Bool) → (a || b) ≡ false → a ≡ false
 or_first true b e = absurd cc
@@ -193,29 +209,29 @@ pub changes_nothing : (context : NameContext) (before : List Item) (seen : Seen)
 changes_nothing context before seen x k main e = record { code = None; fault_is = changed_so context before seen x None None k main e refl; is = refl }
 
 pub changes_variable : (context : NameContext) (before : List Item) (seen : Seen) (constants : Constants) (x : Item) (change : ℕ × Place) → IsSeen before seen → AreHeld before constants → seen.in_main ≡ true → changed_at before x ≡ Some change
-    → is_value context change.0 ≡ false → has_one constants.declarations.items change.0 ≡ false → IsChange context before x None
+    → is_value context change.0 ≡ false → has_one (still 0 constants.declarations) change.0 ≡ false → IsChange context before x None
 changes_variable context before seen constants x change k h main e other none = record {
   code = None;
   fault_is = changed_so context before seen x (Some change) None k main e (record {
     found = None;
     finds = λ values valid. and_none (is_kept (truths_at context values) before) (is_value context change.0 || is_among change.0 (constants_at (truths_at context values) before))
         (ap (λ (b : Bool). b || is_among change.0 (constants_at (truths_at context values) before)) other
-        ∙ sym (h.declarations (truths_at context values) change.0) ∙ none_declared (truths_at context values) constants.declarations.items change.0 none);
+        ∙ sym (h.declarations 0 (truths_at context values) change.0) ∙ none_declared (truths_at context values) (still 0 constants.declarations) change.0 none);
     fault_is = refl;
   });
   is = refl;
 }
 
 changes_name : (context : NameContext) (before : List Item) (seen : Seen) (constants : Constants) (x : Item) (change : ℕ × Place) (found : Option Config) (code : Option FileCode) → IsSeen before seen → AreHeld before constants → seen.in_main ≡ true → changed_at before x ≡ Some change
-    → Finds context.model (judging.is_met_constant context seen.groups constants.declarations.items change.0) found → code ≡ code_with (λ example. ChangedConstant) None found → IsChangeFault context before x code
+    → Finds context.model (judging.is_met_constant context seen.groups (still 0 constants.declarations) change.0) found → code ≡ code_with (λ example. ChangedConstant) None found → IsChangeFault context before x code
 changes_name context before seen constants x change found code k h main e finds is = changed_so context before seen x (Some change) code k main e (record {
   found = found;
-  finds = found_same context.model (judging.is_met_constant context seen.groups constants.declarations.items change.0) (is_met_constant context before change.0) (met_same context before seen constants change.0 k h) found finds;
+  finds = found_same context.model (judging.is_met_constant context seen.groups (still 0 constants.declarations) change.0) (is_met_constant context before change.0) (met_same context before seen constants change.0 k h) found finds;
   fault_is = is;
 })
 
 pub changes_constant : (context : NameContext) (before : List Item) (seen : Seen) (constants : Constants) (x : Item) (change : ℕ × Place) (config : Config) → IsSeen before seen → AreHeld before constants → seen.in_main ≡ true → changed_at before x ≡ Some change
-    → Finds context.model (judging.is_met_constant context seen.groups constants.declarations.items change.0) (Some config) → IsChange context before x (Some (ChangedConstant, change.1))
+    → Finds context.model (judging.is_met_constant context seen.groups (still 0 constants.declarations) change.0) (Some config) → IsChange context before x (Some (ChangedConstant, change.1))
 changes_constant context before seen constants x change config k h main e finds = record {
   code = Some ChangedConstant;
   fault_is = changes_name context before seen constants x change (Some config) (Some ChangedConstant) k h main e finds refl;
@@ -223,7 +239,7 @@ changes_constant context before seen constants x change config k h main e finds 
 }
 
 pub changes_elsewhere : (context : NameContext) (before : List Item) (seen : Seen) (constants : Constants) (x : Item) (change : ℕ × Place) → IsSeen before seen → AreHeld before constants → seen.in_main ≡ true → changed_at before x ≡ Some change
-    → Finds context.model (judging.is_met_constant context seen.groups constants.declarations.items change.0) None → IsChange context before x None
+    → Finds context.model (judging.is_met_constant context seen.groups (still 0 constants.declarations) change.0) None → IsChange context before x None
 changes_elsewhere context before seen constants x change k h main e finds = record {
   code = None;
   fault_is = changes_name context before seen constants x change None None k h main e finds refl;

@@ -2,10 +2,11 @@ pub mod Alike
 pub mod Answering
 pub mod Asked
 pub mod Begun
+pub mod Blocks
 pub mod Calling
+pub mod ClassesBehind
 pub mod Declared
 pub mod Declaring
-pub mod KindsBehind
 pub mod Meeting
 pub mod Opened
 pub mod Plain

@@ -14,8 +14,9 @@ use Rattle.c_grammar.specs.Constants.{is_name}
 use Rattle.c_grammar.specs.Grammar.{is_group}
 use Rattle.c_grammar.specs.Kept.{directive_of, kept_from}
 use Rattle.c_grammar.specs.Locals.{is_declaring, declarations_from, of_declarations, is_in_own}
+use Rattle.c_grammar.specs.Scopes.{is_open_behind, scoped_from, in_scope, names_in_scope}
 use Rattle.atom_solver.specs.Solutions.{Finds}
-use Rattle.family_names.specs.Names.{NameContext, truths_at, names_of, is_main, declared_by, declared_at, constants_of, values_of, is_among, sections_behind, is_kept, is_missed, is_met_again, is_feature, is_value, value_fault, new_name_fault, IsWithFirst, IsEither, is_used_behind, IsUseFault, IsDeclarationFault, code_with}
+use Rattle.family_names.specs.Names.{NameContext, truths_at, names_of, is_main, declared_by, in_scope_at, constants_of, values_of, is_among, sections_behind, is_kept, is_missed, is_met_again, is_feature, is_value, value_fault, new_name_fault, IsWithFirst, IsEither, is_used_behind, IsUseFault, IsDeclarationFault, code_with}
 use Rattle.family_names.specs.Laws.{has_groups, IsPlainUseFault, PlainNames}
 use Rattle.family_names.proofs.Answering.{found_same}
 
@@ -62,21 +63,36 @@ declared_none main declaring (x ∷ xs) h =
       | false ↦ ap (λ (b : Bool). b || has_groups (declarations_from m d xs)) (or_first (is_group x.sign) (has_groups xs) h) ∙ rest
     ]
 
+-- and without those whose block is left
+scoped_none : (n : ℕ) (main : Bool) (w : List Item) → has_groups w ≡ false → has_groups (scoped_from n main w) ≡ false
+scoped_none n main [] h = refl
+scoped_none n main (x ∷ xs) h =
+    let m = main || is_main x.sign in
+    let rest = scoped_none n m xs (or_second (is_group x.sign) (has_groups xs) h) in
+    elim (main && is_name x.sign && not (is_open_behind n xs)) as (λ b. has_groups (if b then scoped_from n (main || is_main x.sign) xs else x ∷ scoped_from n (main || is_main x.sign) xs) ≡ false) [
+      | true ↦ rest
+      | false ↦ ap (λ (b : Bool). b || has_groups (scoped_from n m xs)) (or_first (is_group x.sign) (has_groups xs) h) ∙ rest
+    ]
+
 pub kept_plain : (truths : List Bool) (before : List Item) → has_groups before ≡ false → is_kept truths before ≡ true
 kept_plain truths before h = ap all_kept (none_open truths before h)
 
-declared_plain : (truths : List Bool) (before : List Item) → has_groups before ≡ false → declared_at truths before ≡ declared_by before
-declared_plain truths before h = ap names_of (all_stay truths (of_declarations before) (declared_none false false before h))
+scope_plain : (truths : List Bool) (before : List Item) → has_groups before ≡ false → in_scope_at truths before ≡ names_in_scope before
+scope_plain truths before h = ap names_of (all_stay truths (in_scope before) (scoped_none 0 false (of_declarations before) (declared_none false false before h)))
 
-missed_plain : (context : NameContext) (before : List Item) (x : ℕ) → has_groups before ≡ false → (values : List ℤ) → is_missed context before x values ≡ (is_in_own before x || not (is_among x (declared_by before)))
+-- a name is missed where it stands in its own declarator, or behind the block of its declaration
+abbrev is_plain_missed : List Item → ℕ → Bool
+is_plain_missed before x = is_in_own before x || not (is_among x (names_in_scope before))
+
+missed_plain : (context : NameContext) (before : List Item) (x : ℕ) → has_groups before ≡ false → (values : List ℤ) → is_missed context before x values ≡ is_plain_missed before x
 missed_plain context before x h values =
-    ap (λ (b : Bool). b && (is_in_own before x || not (is_among x (declared_at (truths_at context values) before)))) (kept_plain (truths_at context values) before h)
-    ∙ ap (λ (ns : List ℕ). is_in_own before x || not (is_among x ns)) (declared_plain (truths_at context values) before h)
+    ap (λ (b : Bool). b && (is_in_own before x || not (is_among x (in_scope_at (truths_at context values) before)))) (kept_plain (truths_at context values) before h)
+    ∙ ap (λ (ns : List ℕ). is_in_own before x || not (is_among x ns)) (scope_plain (truths_at context values) before h)
 
-met_plain : (context : NameContext) (before : List Item) (x : ℕ) → has_groups before ≡ false → (values : List ℤ) → is_met_again context before x values ≡ is_among x (declared_by before)
+met_plain : (context : NameContext) (before : List Item) (x : ℕ) → has_groups before ≡ false → (values : List ℤ) → is_met_again context before x values ≡ is_among x (names_in_scope before)
 met_plain context before x h values =
-    ap (λ (b : Bool). b && is_among x (declared_at (truths_at context values) before)) (kept_plain (truths_at context values) before h)
-    ∙ ap (is_among x) (declared_plain (truths_at context values) before h)
+    ap (λ (b : Bool). b && is_among x (in_scope_at (truths_at context values) before)) (kept_plain (truths_at context values) before h)
+    ∙ ap (is_among x) (scope_plain (truths_at context values) before h)
 
 -- where this holds nowhere, nothing is found
 pub never_found : (model : Model) (holds : List ℤ → Bool) (code : Option (List ℤ) → FileCode) (other fault : Option FileCode) → ((values : List ℤ) → holds values ≡ false) → IsWithFirst model holds code other fault → fault ≡ other
@@ -86,14 +102,13 @@ never_found model holds code other fault none w = by_found w.found w.finds w.fau
     by_found None h e = e
     by_found (Some config) h e = absurd (let f : true ≡ false = sym h.met ∙ none config.values in cc)
 
--- a name that is declared, in its own declarator or not
-own_plain : (context : NameContext) (before : List Item) (x : ℕ) (fault : Option FileCode) → has_groups before ≡ false → is_among x (declared_by before) ≡ true → IsWithFirst context.model (is_missed context before x) Undeclared None fault
-    → IsEither (is_in_own before x) (IsWithFirst context.model (λ (values : List ℤ). true) Undeclared None fault) (fault ≡ None)
-own_plain context before x fault h a w =
-    let missed : (values : List ℤ) → is_missed context before x values ≡ (is_in_own before x || false) = λ values. missed_plain context before x h values ∙ ap (λ (b : Bool). is_in_own before x || not b) a in
-    elim (is_in_own before x) as (λ o. is_in_own before x ≡ o → IsEither o (IsWithFirst context.model (λ (values : List ℤ). true) Undeclared None fault) (fault ≡ None)) [
-      | true ↦ λ o. record { found = w.found; finds = found_same context.model (is_missed context before x) (λ (values : List ℤ). true) (λ values. missed values ∙ ap (λ (b : Bool). b || false) o) w.found w.finds; fault_is = w.fault_is }
-      | false ↦ λ o. never_found context.model (is_missed context before x) Undeclared None fault (λ values. missed values ∙ ap (λ (b : Bool). b || false) o) w
+-- a name that is declared: it is missed at each configuration, or at none
+declared_plain : (context : NameContext) (before : List Item) (x : ℕ) (fault : Option FileCode) → has_groups before ≡ false → IsWithFirst context.model (is_missed context before x) Undeclared None fault
+    → IsEither (is_plain_missed before x) (IsWithFirst context.model (λ (values : List ℤ). true) Undeclared None fault) (fault ≡ None)
+declared_plain context before x fault h w =
+    elim (is_plain_missed before x) as (λ o. is_plain_missed before x ≡ o → IsEither o (IsWithFirst context.model (λ (values : List ℤ). true) Undeclared None fault) (fault ≡ None)) [
+      | true ↦ λ o. record { found = w.found; finds = found_same context.model (is_missed context before x) (λ (values : List ℤ). true) (λ values. missed_plain context before x h values ∙ o) w.found w.finds; fault_is = w.fault_is }
+      | false ↦ λ o. never_found context.model (is_missed context before x) Undeclared None fault (λ values. missed_plain context before x h values ∙ o) w
     ] refl
 
 -- where a name that is no value's is used, without groups
@@ -101,7 +116,7 @@ abbrev IsOtherPlain : NameContext → List Item → ℕ → Option FileCode → 
 IsOtherPlain context before x fault =
     IsEither (is_feature context x) (fault ≡ Some FeatureInCode)
     (IsEither (not (is_among x (declared_by before))) (fault ≡ Some (Undeclared None))
-    (IsEither (is_in_own before x) (IsWithFirst context.model (λ (values : List ℤ). true) Undeclared None fault) (fault ≡ None)))
+    (IsEither (is_plain_missed before x) (IsWithFirst context.model (λ (values : List ℤ). true) Undeclared None fault) (fault ≡ None)))
 
 other_plain : (context : NameContext) (before : List Item) (x : ℕ) (fault : Option FileCode) → has_groups before ≡ false → IsEither (is_feature context x) (fault ≡ Some FeatureInCode)
     (IsEither (is_among x (declared_by before)) (IsWithFirst context.model (is_missed context before x) Undeclared None fault) (fault ≡ Some (Undeclared None)))
@@ -109,13 +124,13 @@ other_plain : (context : NameContext) (before : List Item) (x : ℕ) (fault : Op
 other_plain context before x fault h u =
     elim (is_feature context x) as (λ f. IsEither f (fault ≡ Some FeatureInCode) (IsEither (is_among x (declared_by before)) (IsWithFirst context.model (is_missed context before x) Undeclared None fault) (fault ≡ Some (Undeclared None)))
     → IsEither f (fault ≡ Some FeatureInCode) (IsEither (not (is_among x (declared_by before))) (fault ≡ Some (Undeclared None))
-    (IsEither (is_in_own before x) (IsWithFirst context.model (λ (values : List ℤ). true) Undeclared None fault) (fault ≡ None)))) [
+    (IsEither (is_plain_missed before x) (IsWithFirst context.model (λ (values : List ℤ). true) Undeclared None fault) (fault ≡ None)))) [
       | true ↦ λ e. e
-      | false ↦ elim (is_among x (declared_by before)) as (λ a. is_among x (declared_by before) ≡ a → IsEither a (IsWithFirst context.model (is_missed context before x) Undeclared None fault) (fault ≡ Some (Undeclared None))
-          → IsEither (not a) (fault ≡ Some (Undeclared None)) (IsEither (is_in_own before x) (IsWithFirst context.model (λ (values : List ℤ). true) Undeclared None fault) (fault ≡ None))) [
-            | true ↦ λ a w. own_plain context before x fault h a w
-            | false ↦ λ a e. e
-          ] refl
+      | false ↦ elim (is_among x (declared_by before)) as (λ a. IsEither a (IsWithFirst context.model (is_missed context before x) Undeclared None fault) (fault ≡ Some (Undeclared None))
+          → IsEither (not a) (fault ≡ Some (Undeclared None)) (IsEither (is_plain_missed before x) (IsWithFirst context.model (λ (values : List ℤ). true) Undeclared None fault) (fault ≡ None))) [
+            | true ↦ λ w. declared_plain context before x fault h w
+            | false ↦ λ e. e
+          ]
     ] u
 
 use_plain : (context : NameContext) (before : List Item) (x : ℕ) (fault : Option FileCode) → has_groups before ≡ false → IsUseFault context before x fault → IsPlainUseFault context before x fault
@@ -128,9 +143,9 @@ use_plain context before x fault h u =
     ] u
 
 declaration_plain : (context : NameContext) (before : List Item) (x : ℕ) (fault : Option FileCode) → has_groups before ≡ false → IsDeclarationFault context before x fault
-    → IsEither (is_among x (declared_by before)) (IsWithFirst context.model (λ (values : List ℤ). true) Twice (new_name_fault context before x) fault) (fault ≡ new_name_fault context before x)
+    → IsEither (is_among x (names_in_scope before)) (IsWithFirst context.model (λ (values : List ℤ). true) Twice (new_name_fault context before x) fault) (fault ≡ new_name_fault context before x)
 declaration_plain context before x fault h w =
-    elim (is_among x (declared_by before)) as (λ a. is_among x (declared_by before) ≡ a → IsEither a (IsWithFirst context.model (λ (values : List ℤ). true) Twice (new_name_fault context before x) fault) (fault ≡ new_name_fault context before x)) [
+    elim (is_among x (names_in_scope before)) as (λ a. is_among x (names_in_scope before) ≡ a → IsEither a (IsWithFirst context.model (λ (values : List ℤ). true) Twice (new_name_fault context before x) fault) (fault ≡ new_name_fault context before x)) [
       | true ↦ λ a. record { found = w.found; finds = found_same context.model (is_met_again context before x) (λ (values : List ℤ). true) (λ values. met_plain context before x h values ∙ a) w.found w.finds; fault_is = w.fault_is }
       | false ↦ λ a. never_found context.model (is_met_again context before x) Twice (new_name_fault context before x) fault (λ values. met_plain context before x h values ∙ a) w
     ] refl
@@ -138,7 +153,7 @@ declaration_plain context before x fault h w =
 pub plain_names : PlainNames
 plain_names context before x fault h n =
     elim (is_used_behind before) as (λ m. IsEither m (IsUseFault context before x fault) (IsDeclarationFault context before x fault) → IsEither m (IsPlainUseFault context before x fault)
-    (IsEither (is_among x (declared_by before)) (IsWithFirst context.model (λ (values : List ℤ). true) Twice (new_name_fault context before x) fault) (fault ≡ new_name_fault context before x))) [
+    (IsEither (is_among x (names_in_scope before)) (IsWithFirst context.model (λ (values : List ℤ). true) Twice (new_name_fault context before x) fault) (fault ≡ new_name_fault context before x))) [
       | true ↦ λ u. use_plain context before x fault h u
       | false ↦ λ w. declaration_plain context before x fault h w
     ] n

@@ -1,5 +1,5 @@
 -- Laws of the faults of names.
-use Rattle.std.specs.Prelude.{◌≡◌, ℕ, ℤ, Bool, true, false, not, List, length, Option, Some, None, if◌then◌else◌}
+use Rattle.std.specs.Prelude.{◌≡◌, ℕ, ℤ, Bool, true, false, not, ◌||◌, List, length, Option, Some, None, if◌then◌else◌}
 use Rattle.std.specs.List.{list_any}
 use Rattle.fam_outer.specs.declared.faults.Place.{Place}
 use Rattle.fam_outer.specs.declared.faults.FileCode.{FileCode}
@@ -10,6 +10,7 @@ use Rattle.c_grammar.specs.declared.items.Sign.TheVariants as signs
 use Rattle.c_grammar.specs.Grammar.{is_group}
 use Rattle.c_grammar.specs.Functions.{is_void, is_equals, stands_behind}
 use Rattle.c_grammar.specs.Locals.{is_in_own}
+use Rattle.c_grammar.specs.Scopes.{names_in_scope}
 use Rattle.family_names.specs.Functions.{functions_by, callable_by}
 use Rattle.family_names.specs.Names.{NameContext, truths_at, has_main, declared_by, constants_of, values_of, is_among, is_feature, is_value, value_fault, new_name_fault, function_fault, IsWithFirst, IsEither, is_used_behind, IsNameFault, IsFirstNameFault}
 
@@ -17,20 +18,20 @@ use Rattle.family_names.specs.Names.{NameContext, truths_at, has_main, declared_
 abbrev pub has_groups : List Item → Bool
 has_groups items = list_any (λ x. is_group x.sign) items
 
--- a name is used: an integer feature's, or a Boolean one's, or one that is not declared; of one that stands in its own declarator the
--- example is the least valid configuration
+-- a name is used: an integer feature's, or a Boolean one's, or one that is not declared; of one that stands in its own declarator, or
+-- behind the block of its declaration, the example is the least valid configuration
 abbrev pub IsPlainUseFault : NameContext → List Item → ℕ → Option FileCode → Type 0
 IsPlainUseFault context before x fault =
     IsEither (is_value context x) (fault ≡ value_fault context (values_of context before) (length (constants_of before)) x)
     (IsEither (is_feature context x) (fault ≡ Some FeatureInCode)
     (IsEither (not (is_among x (declared_by before))) (fault ≡ Some (Undeclared None))
-    (IsEither (is_in_own before x) (IsWithFirst context.model (λ (values : List ℤ). true) Undeclared None fault) (fault ≡ None))))
+    (IsEither (is_in_own before x || not (is_among x (names_in_scope before))) (IsWithFirst context.model (λ (values : List ℤ). true) Undeclared None fault) (fault ≡ None))))
 
--- the fault of a name without groups: of a second declaration the example is the least valid configuration
+-- the fault of a name without groups: of a second declaration in a scope the example is the least valid configuration
 abbrev pub IsPlainFault : NameContext → List Item → ℕ → Option FileCode → Type 0
 IsPlainFault context before x fault =
     IsEither (is_used_behind before) (IsPlainUseFault context before x fault)
-    (IsEither (is_among x (declared_by before)) (IsWithFirst context.model (λ (values : List ℤ). true) Twice (new_name_fault context before x) fault)
+    (IsEither (is_among x (names_in_scope before)) (IsWithFirst context.model (λ (values : List ℤ). true) Twice (new_name_fault context before x) fault)
     (fault ≡ new_name_fault context before x))
 
 -- behind items without groups, the fault of a name is the plain one

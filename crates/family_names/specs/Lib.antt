@@ -1,4 +1,5 @@
 pub mod AroundMain
+pub mod Blocks
 pub mod Declarations
 pub mod Functions
 pub mod Groups

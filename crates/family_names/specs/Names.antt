@@ -1,9 +1,10 @@
 -- The names that the items of a file with groups declare, and the first fault of a name (ISO/IEC 9899:2011, 6.5.1 and 6.7).
 -- Before `main` each name is that of a declaration, and so is a name of `main` behind a word of a type, `const` or a comma; each other
 -- name of `main` is used. The scope of a name begins behind its declarator and initialiser, since it has no value before, and goes on to
--- the end of `main`. A valid configuration gives each condition a truth, and keeps the items that stand in kept groups. The name of an
--- integer feature may be used in `main`: it is that of a variable which begins with the feature's value, and is never changed. A function
--- is declared before `main` and called behind it (6.5.2.2 and 6.7.6.3).
+-- the end of its block, or of the file where it stands before `main` (6.2.1); in it the name is not declared again. A valid configuration
+-- gives each condition a truth, and keeps the items that stand in kept groups. The name of an integer feature may be used in `main`: it is
+-- that of a variable which begins with the feature's value, and is never changed. A function is declared before `main` and called behind
+-- it (6.5.2.2 and 6.7.6.3).
 use Rattle.std.specs.Prelude.{◌≡◌, ℕ, ◌+◌, ℤ, ◌-ℤ◌, unsigned_abs, nat_eq, nat_le, nat_lt, Bool, true, false, not, ◌&&◌, ◌||◌, List, [], ◌∷◌, ◌++◌, length, map, slice_get, Option, Some, None, if◌then◌else◌}
 use Rattle.std.specs.List.{list_any, filter, sum_by}
 use Rattle.std.specs.Str.{bytes_eq}
@@ -26,10 +27,13 @@ use Rattle.c_grammar.specs.declared.items.Sign.TheVariants as signs
 use Rattle.c_grammar.specs.declared.constants.NameKind.TheVariants as kinds
 use Rattle.c_grammar.specs.Changes.{changed_at}
 use Rattle.c_grammar.specs.Constants.{is_constant, kind_after, of_constants}
-use Rattle.c_grammar.specs.Kinds.{is_declared_constant}
+use Rattle.c_grammar.specs.declared.constants.NameClass.{NameClass}
+use Rattle.c_grammar.specs.declared.constants.NameClass.TheVariants as classes
+use Rattle.c_grammar.specs.Classes.{class_of, is_class, class_in}
+use Rattle.c_grammar.specs.Scopes.{in_scope}
 use Rattle.c_grammar.specs.Functions.{is_void, is_equals, stands_behind}
 use Rattle.c_grammar.specs.Kept.{directive_of, kept}
-use Rattle.c_grammar.specs.Locals.{declares_behind, of_declarations, is_in_own}
+use Rattle.c_grammar.specs.Locals.{declares_behind, is_in_own}
 pub use Rattle.c_grammar.specs.Locals.{name_of, names_of, declared_by}
 use Rattle.atom_solver.specs.Solutions.{Finds}
 use Rattle.family_names.specs.Functions.{functions_at, callable_by, callable_at}
@@ -37,13 +41,13 @@ pub use Rattle.family_names.specs.AroundMain.{is_main, has_main, until_main, beh
 
 -- ---- declared names
 
--- the names that the items declare where each condition has a truth
-abbrev pub declared_at : List Bool → List Item → List ℕ
-declared_at truths items = names_of (kept truths (of_declarations items))
+-- the names that are in scope behind the items where each condition has a truth
+abbrev pub in_scope_at : List Bool → List Item → List ℕ
+in_scope_at truths items = names_of (kept truths (in_scope items))
 
--- the names that they declare as constants where each condition has a truth
+-- those of them that are declared as constants
 abbrev pub constants_at : List Bool → List Item → List ℕ
-constants_at truths items = declared_at truths (of_constants items)
+constants_at truths items = in_scope_at truths (of_constants items)
 
 abbrev pub is_among : ℕ → List ℕ → Bool
 is_among x numbers = list_any (nat_eq x) numbers
@@ -57,14 +61,18 @@ abbrev pub each_once : List ℕ → List ℕ → List ℕ
 each_once seen [] = seen
 each_once seen (x ∷ xs) = each_once (with_number seen x) xs
 
--- ---- kinds of declared names
+-- ---- classes of declared names
 
--- the names that the items declare, each once: those whose first declaration is a constant's, and those of variables
+-- the names of a class that the items declare, each once
+abbrev pub names_of_class : NameClass → List Item → List ℕ
+names_of_class class items = filter (λ x. is_class class (class_in items x)) (each_once [] (declared_by items))
+
 abbrev pub constants_of : List Item → List ℕ
-constants_of items = filter (is_declared_constant items) (each_once [] (declared_by items))
+constants_of items = names_of_class classes.Constant items
 
-abbrev pub variables_of : List Item → List ℕ
-variables_of items = filter (λ x. not (is_declared_constant items x)) (each_once [] (declared_by items))
+-- the class of a name that is declared behind the items, where it is its first declaration
+abbrev pub class_behind : List Item → NameClass
+class_behind items = class_of (has_main items) (is_constant (kind_after kinds.Variable items))
 
 -- ---- kept items
 
@@ -148,17 +156,17 @@ values_of context items = each_once [] (filter (is_value context) (names_of (beh
 
 -- ---- what a configuration keeps
 
--- the name behind these items is kept, and no declaration of it, whose scope begins behind its declarator
+-- the name behind these items is kept, and no declaration of it is in scope, which it is behind its declarator
 abbrev pub is_missed : NameContext → List Item → ℕ → List ℤ → Bool
 is_missed context before x values =
-    is_kept (truths_at context values) before && (is_in_own before x || not (is_among x (declared_at (truths_at context values) before)))
+    is_kept (truths_at context values) before && (is_in_own before x || not (is_among x (in_scope_at (truths_at context values) before)))
 
--- the name behind these items is kept, and a declaration of it
+-- the name behind these items is kept, and a declaration of it is in scope
 abbrev pub is_met_again : NameContext → List Item → ℕ → List ℤ → Bool
 is_met_again context before x values =
-    is_kept (truths_at context values) before && is_among x (declared_at (truths_at context values) before)
+    is_kept (truths_at context values) before && is_among x (in_scope_at (truths_at context values) before)
 
--- what stands behind these items is kept, and a declaration of the name as a constant; or the name is that of a value
+-- what stands behind these items is kept, and a declaration of the name as a constant is in scope; or the name is that of a value
 abbrev pub is_met_constant : NameContext → List Item → ℕ → List ℤ → Bool
 is_met_constant context before x values =
     is_kept (truths_at context values) before && (is_value context x || is_among x (constants_at (truths_at context values) before))
@@ -200,27 +208,27 @@ value_fault context used constants x =
     else (if nat_lt 256 (test_count context (used ++ x ∷ [])) then Some TooManyValueTests
     else (if nat_le 16 (constants + length used) then Some TooManyConstants else None))
 
--- where a name is used: it is an integer feature's, or a Boolean one's, or it has no declaration, or no declaration of it is kept
--- at some configuration
+-- where a name is used: it is an integer feature's, or a Boolean one's, or it has no declaration, or none of it is in scope at some
+-- configuration
 abbrev pub IsUseFault : NameContext → List Item → ℕ → Option FileCode → Type 0
 IsUseFault context before x fault =
     IsEither (is_value context x) (fault ≡ value_fault context (values_of context before) (length (constants_of before)) x)
     (IsEither (is_feature context x) (fault ≡ Some FeatureInCode)
     (IsEither (is_among x (declared_by before)) (IsWithFirst context.model (is_missed context before x) Undeclared None fault) (fault ≡ Some (Undeclared None))))
 
--- one more name of this kind, where there are so many constants and values, or so many variables
-abbrev pub full_fault : Bool → ℕ → ℕ → Option FileCode
-full_fault true others variables = if nat_le 16 others then Some TooManyConstants else None
-full_fault false others variables = if nat_le 16 variables then Some TooManyVariables else None
+-- one more name of this class, where there are so many of it, and so many features are used as values, with which constants are counted
+abbrev pub full_fault : NameClass → ℕ → ℕ → Option FileCode
+full_fault classes.Constant names values = if nat_le 16 (names + values) then Some TooManyConstants else None
+full_fault _ names values = if nat_le 16 names then Some TooManyVariables else None
 
--- a name is a feature's, or it is new and the 17th of its kind, where a constant is counted with the features that are used as values
+-- a name is a feature's, or it is new and the 17th of its class
 abbrev pub new_name_fault : NameContext → List Item → ℕ → Option FileCode
 new_name_fault context before x =
     if is_feature context x then Some FeatureInCode
     else (if is_among x (declared_by before) then None
-    else full_fault (is_constant (kind_after kinds.Variable before)) (length (constants_of before) + length (values_of context before)) (length (variables_of before)))
+    else full_fault (class_behind before) (length (names_of_class (class_behind before) before)) (length (values_of context before)))
 
--- where a name is declared: an earlier declaration of it is kept too at some configuration, or it is a feature's or the 17th
+-- where a name is declared: at some configuration an earlier declaration of it is in scope, or it is a feature's or the 17th of its class
 abbrev pub IsDeclarationFault : NameContext → List Item → ℕ → Option FileCode → Type 0
 IsDeclarationFault context before x fault =
     IsWithFirst context.model (is_met_again context before x) Twice (new_name_fault context before x) fault
@@ -251,7 +259,7 @@ IsNameFault context before (signs.Function k) fault =
     IsEither (has_main before) (IsCallFault context before k fault) (IsPrototypeFault context before k fault)
 IsNameFault context before _ fault = fault ≡ None
 
--- where a name is changed: at some configuration it is kept, and it is a value's or a declaration of it as a constant is kept;
+-- where a name is changed: at some configuration it is kept, and it is a value's or a declaration of it as a constant is in scope;
 -- whichever is not told
 abbrev pub IsChangeOf : NameContext → List Item → Option (ℕ × Place) → Option FileCode → Type 0
 IsChangeOf context before None fault = fault ≡ None

@@ -7,26 +7,28 @@ ghost use Rattle.cpp_conditions.specs.Propositions.{IsBelow, true_on};
 ghost use Rattle.cpp_conditions.specs.View.{formula};
 ghost use Rattle.atom_solver.specs.Solutions.{Finds};
 ghost use Rattle.c_grammar.specs.declared.items.Item as items;
+ghost use Rattle.c_grammar.specs.Scoped.{IsSound, is_inside};
 ghost use Rattle.family_names.specs.NameContexts.{plain, IsFit};
 ghost use Rattle.family_names.specs.Judging as judging;
 
-use crate::declarations::{Declaration, declaring, has_one};
-use crate::faults::Seen;
+use crate::declarations::{Declaration, add_declaration, declaring, follow_blocks, has_one};
 use crate::groups::Groups;
 use crate::name_context::NameContext;
 use crate::questions::keeping;
-use c_grammar::{Item, Sign, Track};
+use crate::seen::Seen;
+use c_grammar::{Item, Scoped, Sign, Track};
 use cpp_conditions::Formula;
 use cpp_conditions::formulas::both;
 use fam_outer::{FileCode, NoMemory, Place};
 use linear_atoms::Config;
 use std::alloc::Global;
 
-/// What is known of constants behind some items: what they tell of the next one, and the declarations of constants.
+/// What is known of constants behind some items: what they tell of the next one, and the declarations of constants whose block is
+/// open.
 #[derive(Drop)]
 pub(crate) struct Constants {
     pub(crate) track: Track,
-    pub(crate) declarations: Vec<Declaration>,
+    pub(crate) declarations: Scoped<Declaration>,
 }
 
 /// That what stands in these groups is kept, and one of the declarations of the name, where it is not a value's.
@@ -89,33 +91,37 @@ pub(crate) fn change_fault(
     let Some((name, place)) = constants.track.change(item) else {
         return Ok(None);
     };
-    if !context.is_value(name) && !has_one(&constants.declarations, name) {
+    let declarations = constants.declarations.items();
+    if !context.is_value(name) && !has_one(declarations, name) {
         return Ok(None);
     }
-    match first_met(alloc, context, &seen.groups, &constants.declarations, name)? {
+    match first_met(alloc, context, &seen.groups, declarations, name)? {
         Some(_config) => Ok(Some((FileCode::ChangedConstant, place))),
         None => Ok(None),
     }
 }
 
-/// Adds a declaration in these groups, where the sign is a name and it is a constant's.
-fn declare_constant(
+/// Goes on behind a sign in these groups: a name that is a constant's is declared.
+fn follow_constants(
     alloc: Global,
-    declarations: &mut Vec<Declaration>,
+    declarations: &mut Scoped<Declaration>,
     is_constant: bool,
     groups: &Groups,
+    in_main: bool,
     sign: Sign,
 ) -> Result<(), NoMemory>
-    ensures { OnOk result (declarations.new.items
-        ≡ judging.with_constant declarations.old.items is_constant groups.now sign) }
+    ensures { IsSound declarations.old → is_inside declarations.old ≡ in_main
+        → OnOk result (judging.FollowsConstants declarations.old is_constant groups.now in_main sign declarations.new) }
 {
     match sign {
-        Sign::Name(name) if is_constant => {
-            let groups = groups.copy(alloc)?;
-            declarations.push(Declaration { name, groups })?;
-            Ok(())
+        Sign::Name(name) => {
+            if is_constant {
+                add_declaration(alloc, declarations, groups, name)
+            } else {
+                Ok(())
+            }
         }
-        _ => Ok(()),
+        _ => follow_blocks(declarations, in_main, sign),
     }
 }
 
@@ -126,7 +132,7 @@ impl Constants {
     {
         Constants {
             track: Track::new(),
-            declarations: Vec::new(alloc),
+            declarations: Scoped::new(alloc),
         }
     }
 
@@ -139,11 +145,12 @@ impl Constants {
     {
         let is_used = seen.uses_next(self.track);
         let is_constant = self.track.is_constant() && !is_used;
-        declare_constant(
+        follow_constants(
             alloc,
             &mut self.declarations,
             is_constant,
             &seen.groups,
+            seen.in_main,
             item.sign,
         )?;
         self.track.follow(item);

@@ -1,16 +1,19 @@
 //! Declarations and the groups that they stand in.
 #![tactic(auto)]
 
-ghost use Rattle.std.specs.Prelude.{◌≡◌, ℕ, Bool, true, List, ◌&&◌, ◌||◌, IfOk};
+ghost use Rattle.std.specs.Prelude.{◌≡◌, ℕ, Bool, true, List, ◌&&◌, ◌||◌, IfOk, OnOk};
 ghost use Rattle.std.specs.List.{All};
 ghost use Rattle.cpp_conditions.specs.Propositions.{IsBelow, true_on};
 ghost use Rattle.cpp_conditions.specs.View.{formula};
+ghost use Rattle.c_grammar.specs.Scoped.{IsSound, is_inside};
+ghost use Rattle.family_names.specs.Blocks.{AddsDeclaration, FollowsBlocks};
 ghost use Rattle.family_names.specs.Groups.{are_kept};
 ghost use Rattle.family_names.specs.Names.{truths_on};
 ghost use Rattle.family_names.specs.Declarations.{is_kept, is_declared, has_one};
 
 use crate::groups::{Groups, cut_last};
 use crate::questions::keeping;
+use c_grammar::{Scoped, Sign};
 use cpp_conditions::Formula;
 use cpp_conditions::formulas::either;
 use fam_outer::NoMemory;
@@ -108,4 +111,51 @@ pub(crate) fn is_clear(declarations: &[Declaration], name: u32, groups: &Groups)
         rest = before;
     }
     false
+}
+
+/// Adds a declaration of the name in these groups.
+pub(crate) fn add_declaration(
+    alloc: Global,
+    declarations: &mut Scoped<Declaration>,
+    groups: &Groups,
+    name: u32,
+) -> Result<(), NoMemory>
+    ensures { IsSound declarations.old
+        → OnOk result (AddsDeclaration declarations.old groups.now name declarations.new) }
+{
+    let groups = groups.copy(alloc)?;
+    declarations.push(Declaration { name, groups })
+}
+
+/// Goes on behind a sign, in `main` or before it. A block begins at `main`, and at each brace in it; at its end its
+/// declarations are given up.
+pub(crate) fn follow_blocks(
+    declarations: &mut Scoped<Declaration>,
+    in_main: bool,
+    sign: Sign,
+) -> Result<(), NoMemory>
+    ensures { IsSound declarations.old → is_inside declarations.old ≡ in_main
+        → OnOk result (FollowsBlocks declarations.old in_main sign declarations.new) }
+{
+    match sign {
+        Sign::Main => {
+            if in_main {
+                Ok(())
+            } else {
+                declarations.enter()
+            }
+        }
+        Sign::LeftBrace => {
+            if in_main {
+                declarations.enter()
+            } else {
+                Ok(())
+            }
+        }
+        Sign::RightBrace => {
+            declarations.leave();
+            Ok(())
+        }
+        _ => Ok(()),
+    }
 }

@@ -10,20 +10,22 @@ ghost use Rattle.cpp_groups.specs.Kept.{sections_after};
 ghost use Rattle.c_grammar.specs.declared.items.Item as items;
 ghost use Rattle.c_grammar.specs.Changes as changes;
 ghost use Rattle.c_grammar.specs.Kept.{directive_of};
-ghost use Rattle.c_grammar.specs.Locals.{is_in_own};
+ghost use Rattle.c_grammar.specs.Locals.{is_main, is_in_own};
+ghost use Rattle.c_grammar.specs.Scoped.{IsSound, is_inside};
 ghost use Rattle.family_names.specs.Groups.{sections};
 ghost use Rattle.family_names.specs.Names.{IsFirstNameFault};
 ghost use Rattle.family_names.specs.NameContexts.{plain, IsFit};
 ghost use Rattle.family_names.specs.Judging as judging;
 
 use crate::constants::{Constants, change_fault};
-use crate::declarations::Declaration;
-use crate::faults::{Seen, declare, use_fault};
-use crate::functions::{Functions, call_fault, declare_function};
+use crate::declarations::{Declaration, follow_blocks};
+use crate::faults::{declare, use_fault};
+use crate::functions::{call_fault, declare_function};
 use crate::groups::Groups;
 use crate::name_context::NameContext;
+use crate::seen::Seen;
 use crate::values::Used;
-use c_grammar::{Item, Sign, Track};
+use c_grammar::{Item, NameClass, Scoped, Sign, Track};
 use cpp_groups::GroupDirective;
 use fam_outer::{FileCode, NoMemory, Place};
 use std::alloc::Global;
@@ -41,8 +43,8 @@ fn directive(sign: Sign) -> Option<GroupDirective>
     }
 }
 
-/// Goes on behind an item.
-fn pass(groups: &mut Groups, sign: Sign) -> Result<(), NoMemory>
+/// Goes on behind a sign, which may be a group directive.
+fn follow_groups(groups: &mut Groups, sign: Sign) -> Result<(), NoMemory>
     ensures { OnOk result ((truths : List Bool)
         → sections truths groups.new ≡ sections_after truths (sections truths groups.old)
         (directive_of sign)) }
@@ -51,6 +53,27 @@ fn pass(groups: &mut Groups, sign: Sign) -> Result<(), NoMemory>
         None => Ok(()),
         Some(directive) => groups.follow(directive),
     }
+}
+
+/// Whether the sign is `main`.
+fn is_main(sign: Sign) -> bool
+    ensures { result ≡ is_main sign }
+{
+    matches!(sign, Sign::Main)
+}
+
+/// Goes on behind a sign that is no name and no function.
+fn pass(seen: &mut Seen, settled: &mut Scoped<Declaration>, sign: Sign) -> Result<(), NoMemory>
+    ensures { IsSound seen.old.declarations → IsSound settled.old
+        → is_inside seen.old.declarations ≡ seen.old.in_main
+        → is_inside settled.old ≡ seen.old.in_main
+        → OnOk result (judging.Passes seen.old settled.old sign seen.new settled.new) }
+{
+    follow_blocks(&mut seen.declarations, seen.in_main, sign)?;
+    follow_blocks(settled, seen.in_main, sign)?;
+    follow_groups(&mut seen.groups, sign)?;
+    seen.in_main = seen.in_main || is_main(sign);
+    Ok(())
 }
 
 /// Whether a name that comes next stands in its own declarator.
@@ -70,29 +93,26 @@ fn judge(
     context: &NameContext<'_>,
     seen: &mut Seen,
     used: &mut Used,
-    settled: &mut Vec<Declaration>,
+    settled: &mut Scoped<Declaration>,
     track: Track,
     sign: Sign,
 ) -> Result<Option<FileCode>, NoMemory>
     requires { IsFit (plain context.now) }
     ensures { (before : List items.Item) → judging.IsSeen before seen.old
         → judging.AreUsed (plain context.now) before used.old
-        → judging.AreSettled (plain context.now) seen.old.declarations.items settled.old.items
+        → judging.AreSettled (plain context.now) seen.old.declarations settled.old
         → changes.IsTrack before track
-        → IfOk result (λ fault. judging.Judges (plain context.now) before sign seen.new used.new settled.new.items fault) }
+        → IfOk result (λ fault. judging.Judges (plain context.now) before sign seen.new used.new settled.new fault) }
 {
     match sign {
-        Sign::Main => {
-            seen.in_main = true;
-            Ok(None)
-        }
         Sign::Name(number) => {
             if seen.uses_next(track) {
                 let is_own = is_in_own(track, number);
                 use_fault(alloc, context, seen, used, settled, is_own, number)
             } else {
                 let values = used.names.len();
-                declare(alloc, context, seen, values, track.is_constant(), number)
+                let class = NameClass::of(seen.in_main, track.is_constant());
+                declare(alloc, context, seen, values, class, number)
             }
         }
         Sign::Function(number) => {
@@ -107,7 +127,7 @@ fn judge(
             }
         }
         _ => {
-            pass(&mut seen.groups, sign)?;
+            pass(seen, settled, sign)?;
             Ok(None)
         }
     }
@@ -116,31 +136,36 @@ fn judge(
 /// The first fault of a name among the items of a file, with its place; at one name it is the first of these.
 ///
 /// - F13: a name is used, and no declaration before it has it; or some valid configuration keeps the name and no declaration
-///   of it whose scope has begun, and then with the values of the least one (ISO/IEC 9899:2011, 6.5.1). So it is of a
-///   function that is called, where a declaration with `void` doesn't count if a value is wanted (6.5.2.2).
-/// - F14: a name is declared, and some valid configuration keeps it and an earlier declaration of it, with the values of
-///   the least one (6.7). So it is of a function, where only a declaration with another result counts: `void` or a value.
+///   of it that is in scope, and then with the values of the least one (ISO/IEC 9899:2011, 6.5.1). So it is of a function that
+///   is called, where a declaration with `void` doesn't count if a value is wanted (6.5.2.2).
+/// - F14: a name is declared, and some valid configuration keeps it and an earlier declaration of it that is in scope, with
+///   the values of the least one (6.7): no name hides another. So it is of a function, where only a declaration with another
+///   result counts: `void` or a value.
 /// - F15: a feature's name is declared, as a name or a function, or a Boolean feature's is used.
-/// - F17: a 17th variable is declared; those of `main` count too.
+/// - F17: a 17th variable is declared before `main`, or a 17th name in it.
 /// - F22: an integer feature is used as a value for the first time, and more than 256 tests tell its value and those of the
 ///   features that are used before it.
-/// - F23: a name is assigned, raised, lowered or read from input, and some valid configuration keeps it and a declaration
-///   of it with `const` or `enum`, or by `#define`; or keeps it, and it is an integer feature's; no values are told
+/// - F23: a name is assigned, raised, lowered or read from input, and some valid configuration keeps it and a declaration of it
+///   in scope with `const` or `enum`, or by `#define`; or keeps it, and it is an integer feature's; no values are told
 ///   (6.7.2.2, 6.7.3, 6.10.3 and 6.5.16).
-/// - F24: a constant is declared, or an integer feature is used as a value for the first time, and with it there are 17 constants
-///   and values.
+/// - F24: a constant is declared before `main`, or an integer feature is used as a value for the first time, and with it there
+///   are 17 such constants and values.
 ///
 /// Before `main` each name and function is declared. In `main` a name is declared behind a word of a type, `const` or a comma,
-/// each other name is used, and each function is called; F13 is said of no feature's name. The scope of a name begins behind
-/// its declarator and initialiser, since it has no value before (`int x = x;` is F13), and goes on to the end of `main`,
-/// whatever block it is declared in: so it can be declared once in each configuration. A function is declared with `void`
-/// directly behind that word, and a value is wanted of it directly behind `=`; it counts as no variable. A configuration keeps
-/// an item where each group around it is the kept one of its section (6.10.1). The formulas' numbers are below the number of
-/// atoms, and the atoms are as for `Prepared::least_where`. It answers an error only for want of memory.
+/// each other name is used, and each function is called; F13 is said of no feature's name. A name is of the class of its first
+/// declaration, wherever it is declared again: a variable's or a constant's before `main`, or one of `main`, with `const` or
+/// without; names of each class are counted once. The scope of a name begins behind its declarator and initialiser, since it
+/// has no value before (`int x = x;` is F13). Before `main` it goes on to the end of the file, and in `main` to the end of the
+/// block that the declaration stands in (6.2.1), whatever groups the braces stand in; behind it the name may be declared again.
+/// A function is declared with `void` directly behind that word, and a value is wanted of it directly behind `=`; it counts as
+/// no variable. A configuration keeps an item where each group around it is the kept one of its section (6.10.1). The
+/// formulas' numbers are below the number of atoms, and the atoms are as for `Prepared::least_where`. It answers an error only
+/// for want of memory.
 ///
-/// The solver is asked once for each name and list of groups around it, and once for each call, and not where a declaration
-/// stands in the outermost of those groups; and once for each use of a name in its own declarator. Otherwise the time is that
-/// of the items by the declarations and these answers.
+/// The solver is asked once for each name, list of groups around it and block, and once more for each name and block, unless
+/// an answer of the same block or one around it tells; once for each call, each further declaration of a name, each use of one
+/// in its own declarator, and each change of a constant or a value. It is not asked of a use or a call where a declaration
+/// stands in the outermost of those groups. Otherwise the time is that of the items by the declarations and these answers.
 pub fn first_name_fault(
     alloc: Global,
     context: &NameContext<'_>,
@@ -151,17 +176,9 @@ pub fn first_name_fault(
         (formula f)) context.now.conditions.now }
     ensures { IfOk result (λ fault. IsFirstNameFault (plain context.now) items.now fault) }
 {
-    let mut seen = Seen {
-        groups: Groups::new(alloc),
-        in_main: false,
-        names: Vec::new(alloc),
-        constants: Vec::new(alloc),
-        variables: Vec::new(alloc),
-        declarations: Vec::new(alloc),
-        functions: Functions::new(alloc),
-    };
+    let mut seen = Seen::new(alloc);
     let mut used = Used::new(alloc);
-    let mut settled = Vec::new(alloc);
+    let mut settled = Scoped::new(alloc);
     let mut constants = Constants::new(alloc);
     for item in items {
         let change = change_fault(alloc, context, &seen, &constants, *item)?;

@@ -10,6 +10,7 @@ pub mod judging;
 pub mod laws;
 pub mod name_context;
 mod questions;
+mod seen;
 mod values;
 
 pub use judging::first_name_fault;

@@ -7,8 +7,8 @@ ghost use Rattle.family_names.specs.Names as names;
 ghost use Rattle.family_names.specs.NameContexts.{plain};
 ghost use Rattle.family_names.specs.Judging as judging;
 
-use crate::faults::contains;
 use crate::name_context::NameContext;
+use crate::seen::contains;
 use fam_outer::{FileCode, MOST_CONSTANTS, MOST_VALUE_TESTS, NoMemory};
 use std::alloc::Global;
 

@@ -45,23 +45,23 @@ pub const FILE_CODES: [(&str, &str); 23] = [
     ),
     (
         "F13",
-        "F13: A file is refused.\nCause: a name that is used where no declaration of it stands before, or in its\nown declarator; at it. Or: a name that some valid configuration keeps without a\ndeclaration of it; the example is the least such configuration.\nWhat to do: declare it above. Or: declare it for all of them, or use it within\nthe group.\n",
+        "F13: A file is refused.\nCause: a name that is used where no declaration of it stands before, in its own\ndeclarator, or behind the block of its declaration; at it. Or: a name that some\nvalid configuration keeps where no declaration of it is in scope; the example is\nthe least such configuration.\nWhat to do: declare it above, in this block or around it. Or: declare it for all\nof them, or use it within the group.\n",
     ),
     (
         "F14",
-        "F14: A file is refused.\nCause: the second declaration of a name; at the name. Or: a declaration that\nsome valid configuration keeps together with an earlier one; with the least such\nconfiguration.\nWhat to do: keep one. Or: keep one for each configuration.\n",
+        "F14: A file is refused.\nCause: the second declaration of a name where one of it is in scope; at the\nname. Or: a declaration that some valid configuration keeps where an earlier one\nis in scope; with the least such configuration.\nWhat to do: keep one. Or: keep one for each configuration.\n",
     ),
     (
         "F17",
-        "F17: A file is refused.\nCause: the first declaration of the 17th variable; at its name.\nWhat to do: cut the program into parts.\n",
+        "F17: A file is refused.\nCause: the first declaration of the 17th variable before `main`, or of the 17th\nin it; at its name.\nWhat to do: cut the program into parts.\n",
     ),
     (
         "F23",
-        "F23: A file is refused.\nCause: a constant that is assigned, raised, lowered or read from input; at its\nname. Or: a name that some valid configuration keeps changed, together with a\ndeclaration of it as a constant; or a feature that some valid configuration\nkeeps changed; no configuration is told.\nWhat to do: declare it without `const`, `enum` or `#define`, or leave out the\nstatement. Or: the statement within a group in which it is a variable; of a\nfeature, a variable of its own.\n",
+        "F23: A file is refused.\nCause: a constant that is assigned, raised, lowered or read from input; at its\nname. Or: a name that some valid configuration keeps changed, where a\ndeclaration of it as a constant is in scope; or a feature that some valid\nconfiguration keeps changed; no configuration is told.\nWhat to do: declare it without `const`, `enum` or `#define`, or leave out the\nstatement. Or: the statement within a group in which it is a variable; of a\nfeature, a variable of its own.\n",
     ),
     (
         "F24",
-        "F24: A file is refused.\nCause: the first declaration of the 17th constant; at its name. Or: the first\nuse in code of a number feature that is the 17th of the constants and of the\nfeatures that stand in code, or the first declaration, in `main`, of a constant\nthat is so; at it.\nWhat to do: write the number where it is used, or cut the program into parts.\nOr: write the numbers of constants where they are used.\n",
+        "F24: A file is refused.\nCause: the first declaration of the 17th constant before `main`; at its name.\nOr: the first use in code of a number feature that is the 17th of the constants\nand of the features that stand in code; at it.\nWhat to do: write the number where it is used, or cut the program into parts.\nOr: write the numbers of constants where they are used.\n",
     ),
     (
         "F5",

@@ -61,7 +61,7 @@ pub(crate) const PROGRAM_FILES: [(&str, &str); 14] = [
 ];
 
 /// Those that are refused.
-pub(crate) const REFUSED_FILES: [(&str, &str); 17] = [
+pub(crate) const REFUSED_FILES: [(&str, &str); 18] = [
     (
         "F1.c",
         "int x;\nint main(void)\n{\n    x = 1; /* set it\n}\n",
@@ -85,6 +85,10 @@ pub(crate) const REFUSED_FILES: [(&str, &str); 17] = [
     (
         "F13.c",
         "int level;\nint main(void)\n{\n    level = limit - 1;\n}\n",
+    ),
+    (
+        "F13_block.c",
+        "/* A name behind the block of its declaration. */\nint level;\nint main(void)\n{\n    {\n        int step = 5;\n        level = step;\n    }\n    level = level - step;\n}\n",
     ),
     (
         "F14.c",
@@ -356,7 +360,7 @@ pub(crate) const REFUSED_FAMILY_FILES: [(&str, &str); 44] = [
 ];
 
 /// The words of each command on a program without variants, with its output and then its line on the error stream.
-pub(crate) const PROGRAMS: [(&str, &str); 35] = [
+pub(crate) const PROGRAMS: [(&str, &str); 36] = [
     ("plain assertion.c", "7:5: assertion\nalarms: 1\n"),
     ("plain digits.c", "alarms: 0\n"),
     (
@@ -390,6 +394,7 @@ pub(crate) const PROGRAMS: [(&str, &str); 35] = [
     ("plain F12.c", "file: F12 at 4:5\n"),
     ("plain F12_enum.c", "file: F12 at 1:31\n"),
     ("plain F13.c", "file: F13 at 4:13\n"),
+    ("plain F13_block.c", "file: F13 at 9:21\n"),
     ("plain F14.c", "file: F14 at 2:12\n"),
     ("plain F16.c", "file: F16 at 9:49\n"),
     ("plain F17.c", "file: F17 at 1:53\n"),

@@ -7,7 +7,7 @@ use test_runs::running::ran_over;
 const VERSION: &str = "famlint, proved by rattle-kit-13f logic dac8208d650f15bf\n";
 
 const F17: &str =
-    "F17: A file is refused.\nCause: the first declaration of the 17th variable; at its name.\nWhat to do: cut the program into parts.\n";
+    "F17: A file is refused.\nCause: the first declaration of the 17th variable before `main`, or of the 17th\nin it; at its name.\nWhat to do: cut the program into parts.\n";
 
 const STATUS_8: &str =
     "Status 8: want of memory.\nOn the error stream: `want of memory`.\nWhat to do: more memory, or a smaller file.\n";

@@ -20,6 +20,12 @@ fn declarations_are_statements(rt: HostRuntime) -> Result<(), Fail> {
             "#define K 1\nint a=2;\nint main(void){\nint b=3;\na=b+K;\n}\n",
             "ended a=4 b=3 K=1\n",
         ),
+        // with `const` or without
+        (
+            "run m f",
+            "int a;\nenum { K = 1 };\nint main(void){\nconst int c=5;\nint b=c+K;\na=b;\n}\n",
+            "ended a=6 c=5 b=6 K=1\n",
+        ),
         // each declarator is a step of its own, at its name
         (
             "run m f --steps=1",
@@ -67,6 +73,125 @@ fn declarations_are_statements(rt: HostRuntime) -> Result<(), Fail> {
             line,
             &contents,
             (status, output.as_bytes(), b""),
+        )?;
+    }
+    Ok(())
+}
+
+/// A name of blocks beside one another is one variable, which each block sets anew; a name that is out of scope may be declared
+/// again, and no constant of another block keeps it from being changed.
+#[test]
+fn blocks_are_scopes(rt: HostRuntime) -> Result<(), Fail> {
+    let rows = [
+        (
+            "run m f --inputs=5,9",
+            "int main(void){\nint a=2,b;\n{\nint c=a+b;\na=c;\n}{\nint c;\na+=c;\n}}\n",
+            "ended a=16 b=5 c=9\n",
+        ),
+        (
+            "run m f",
+            "int main(void){\n{\nconst int a=1;\n}\n{\nint a=2;\na+=3;\n}\n}\n",
+            "ended a=5\n",
+        ),
+        (
+            "analyse m f",
+            "int x;\nint main(void) {\nif (x) {\nint t = 1;\nx = t;\n} else {\nint t = 2;\nx = t;\n}\nassert(x == 2);\n}\n",
+            "alarms: 0\n",
+        ),
+        // a declaration in a group of a block, and behind the block
+        (
+            "analyse m f",
+            "int main(void) {\n{\n#ifdef A\nint a = 1;\n#else\nint a = 2;\n#endif\na++;\n}\nint a = 3;\nassert(a == 3);\n}\n",
+            "alarms: 0\n",
+        ),
+        // the end of a block in a group leaves what stands around the group
+        (
+            "analyse m f",
+            "int main(void) {\nint a = 1;\n#ifdef A\n{\nint b = 2;\na = b;\n}\n#endif\nassert(a == 1);\n}\n",
+            "9:1: assertion if A; example A=1\nalarms: 1\n",
+        ),
+    ];
+    for (line, file, output) in rows {
+        let contents = two_files(MODEL, file.as_bytes());
+        let status = if output.ends_with("alarms: 1\n") {
+            1
+        } else {
+            0
+        };
+        compares(
+            rt.alloc(),
+            line,
+            &contents,
+            (status, output.as_bytes(), b""),
+        )?;
+    }
+    Ok(())
+}
+
+/// F13 behind a block, with the least configuration that keeps the use where no declaration is in scope; F14 in a block within a
+/// scope; F23 in the scope of a constant.
+#[test]
+fn scopes_are_kept(rt: HostRuntime) -> Result<(), Fail> {
+    let rows = [
+        (
+            "plain f",
+            "int main(void) {\n{\nint a = 1;\n}\na = 2;\n}\n",
+            "file: F13 at 5:1\n",
+        ),
+        (
+            "analyse m f",
+            "int main(void) {\n{\nint a = 1;\n}\na = 2;\n}\n",
+            "file: F13 at 5:1; example A=0\n",
+        ),
+        // the second block has no declaration where A is on
+        (
+            "analyse m f",
+            "int main(void) {\n{\nint a = 1;\n}\n{\n#ifndef A\nint a = 2;\n#endif\na++;\n}\n}\n",
+            "file: F13 at 9:1; example A=1\n",
+        ),
+        (
+            "plain f",
+            "int main(void) {\nint a = 1;\n{\nint b = a, a = b;\n}\n}\n",
+            "file: F14 at 4:12\n",
+        ),
+        (
+            "plain f",
+            "int main(void) {\n{\nint a = 1;\n}\nint a = 2;\n{\n{\nint a = 3;\n}\n}\n}\n",
+            "file: F14 at 8:5\n",
+        ),
+        (
+            "plain f",
+            "int main(void) {\n{\nconst int a = 1;\n{\na++;\n}\n}\n}\n",
+            "file: F23 at 5:1\n",
+        ),
+    ];
+    for (line, file, told) in rows {
+        let contents = two_files(MODEL, file.as_bytes());
+        compares(rt.alloc(), line, &contents, (4, b"", told.as_bytes()))?;
+    }
+    Ok(())
+}
+
+/// 16 variables stand before `main` and 16 in it, with `const` or without, beside 16 constants.
+#[test]
+fn names_are_counted_by_class(rt: HostRuntime) -> Result<(), Fail> {
+    const MOST: &str =
+        "int a0,a1,a2,a3,a4,a5,a6,a7,a8,a9,a10,a11,a12,a13,a14,a15;\nenum{c0,c1,c2,c3,c4,c5,c6,c7,c8,c9,c10,c11,c12,c13,c14,c15};\nint main(void){\nint b0=1,b1=1,b2=1,b3=1,b4=1,b5=1,b6=1,b7=1,b8=1,b9=1,b10=1,b11=1,b12=1,b13=1,b14=1;\nconst int b15=1;\nassert(b15==c1);\n}\n";
+    const LOCAL: &str =
+        "int main(void){\nint b0=1,b1=1,b2=1,b3=1,b4=1,b5=1,b6=1,b7=1,b8=1,b9=1,b10=1,b11=1,b12=1,b13=1,b14=1,b15=1;\n{\nint c=1;\n}\n}\n";
+    let rows = [
+        ("plain f", MOST, 0, "alarms: 0\n", ""),
+        ("analyse m f", MOST, 0, "alarms: 0\n", ""),
+        ("plain f", LOCAL, 4, "", "file: F17 at 4:5\n"),
+        ("analyse m f", LOCAL, 4, "", "file: F17 at 4:5\n"),
+    ];
+    for (line, file, status, output, told) in rows {
+        let contents = two_files(MODEL, file.as_bytes());
+        compares(
+            rt.alloc(),
+            line,
+            &contents,
+            (status, output.as_bytes(), told.as_bytes()),
         )?;
     }
     Ok(())

@@ -36,7 +36,7 @@ use Rattle.c_parser.specs.Functions.{own_functions}
 use Rattle.c_parser.specs.Items.{Listed, listed}
 use Rattle.c_parser.specs.Phases.{is_group_item, is_else_item, item_before, wrong_code}
 
--- the code of a name that is used without a declaration, or declared twice
+-- the code of a name that is used outside of the scope of a declaration, or declared again in one
 abbrev pub is_of_name : FileCode → Bool
 is_of_name (file_codes.Undeclared example) = true
 is_of_name (file_codes.Twice example) = true

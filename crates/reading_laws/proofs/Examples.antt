@@ -16,7 +16,7 @@ use Rattle.c_grammar.specs.Functions.{is_void, is_equals, stands_behind}
 use Rattle.c_grammar.specs.Locals.{is_in_own}
 use Rattle.family_names.specs.Functions.{functions_at, callable_by, callable_at}
 use Rattle.family_names.specs.Names as family
-use Rattle.family_names.specs.Names.{NameContext, has_main, declared_by, declared_at, is_among, is_kept, is_used_behind, is_missed, is_met_again, is_met_unlike, is_uncallable, is_feature, new_name_fault, function_fault, code_with, IsWithFirst, IsEither, IsNameFault, IsChangeOf, IsChangeFault, IsChangeOr, changed_place, IsFaultFrom, IsThisOr, IsUseFault, IsDeclarationFault, IsCallFault, IsPrototypeFault, IsFirstNameFault}
+use Rattle.family_names.specs.Names.{NameContext, has_main, declared_by, in_scope_at, is_among, is_kept, is_used_behind, is_missed, is_met_again, is_met_unlike, is_uncallable, is_feature, new_name_fault, function_fault, code_with, IsWithFirst, IsEither, IsNameFault, IsChangeOf, IsChangeFault, IsChangeOr, changed_place, IsFaultFrom, IsThisOr, IsUseFault, IsDeclarationFault, IsCallFault, IsPrototypeFault, IsFirstNameFault}
 use Rattle.c_parser.proofs.FewNames.{later_of}
 use Rattle.reading_laws.proofs.OtherFaults.{some_code, not_of_value, not_of_function, not_new}
 
@@ -96,17 +96,17 @@ find_first context before (x ∷ xs) code place other h f = elim h.0 as (λ o. I
 
 -- ---- what its example says
 
--- a declaration stays, and where a use is asked, its scope has begun: the name stands not in its own declarator
+-- a declaration that stays is in scope; where a use is asked, the name stands not in its own declarator, behind which its scope begins
 abbrev pub is_there : Bool → Bool → Bool → Bool
 is_there true own declared = not own && declared
 is_there false own declared = declared
 
--- the item is a name, which is used without a declaration there, or declared again
+-- the item is a name, which is used where no declaration of it that stays is in scope, or declared again where one is
 pub record IsNameMissed (context : NameContext) (front : List Item) (sign : Sign) (values : List ℤ) (missed : Bool) : Type 0 where
   pub name : ℕ
   pub sign_is : sign ≡ signs.Name name
   pub use_is : is_used_behind front ≡ missed
-  pub declared : is_there missed (is_in_own front name) (is_among name (declared_at (family.truths_at context values) front)) ≡ not missed
+  pub declared : is_there missed (is_in_own front name) (is_among name (in_scope_at (family.truths_at context values) front)) ≡ not missed
   pub free : missed ≡ true → is_feature context name ≡ false
 
 -- the functions that may be called behind these items, or those that are declared otherwise than what comes next
@@ -157,7 +157,7 @@ not_again : (code : FileCode) (other : Option FileCode) → ((example : Option (
 not_again code other never none None e = none e
 not_again code other never none (Some config) e = never (Some config.values) e
 
--- the scope of the name has not begun, or no declaration of it stays
+-- the scope of the name has not begun, or no declaration of it that stays is in scope
 out_of_scope : (own declared : Bool) → (own || not declared) ≡ true → (not own && declared) ≡ false
 out_of_scope true declared e = refl
 out_of_scope false true e = absurd cc
@@ -256,7 +256,7 @@ never_missed_again context front k values h =
 pub name_used : (context : NameContext) (front : List Item) (s : Sign) (values : List ℤ) → IsNameFault context front s (Some (Undeclared (Some values))) → IsExample context front s values true
 name_used context front (signs.Name n) values h = elim (is_used_behind front) as (λ b. is_used_behind front ≡ b → IsEither b (IsUseFault context front n (Some (Undeclared (Some values)))) (IsDeclarationFault context front n (Some (Undeclared (Some values)))) → IsExample context front (signs.Name n) values true) [
   | true ↦ λ m u. (let w = missed_use context front n values u in
-      let declared : Bool = is_among n (declared_at (family.truths_at context values) front) in
+      let declared : Bool = is_among n (in_scope_at (family.truths_at context values) front) in
       let k = both_so (is_kept (family.truths_at context values) front) (is_in_own front n || not declared) w.1 in
       record { valid = w.0; stays = k.0; is = inl (record { name = n; sign_is = refl; use_is = m; declared = out_of_scope (is_in_own front n) declared k.1; free = λ e. missed_free context front n values u }) })
   | false ↦ λ m d. absurd (never_missed context front n values d)
@@ -274,7 +274,7 @@ pub name_again : (context : NameContext) (front : List Item) (s : Sign) (values 
 name_again context front (signs.Name n) values h = elim (is_used_behind front) as (λ b. is_used_behind front ≡ b → IsEither b (IsUseFault context front n (Some (Twice (Some values)))) (IsDeclarationFault context front n (Some (Twice (Some values)))) → IsExample context front (signs.Name n) values false) [
   | true ↦ λ m u. absurd (never_twice context front n values u)
   | false ↦ λ m d. (let w = missed_again context front n values d in
-      let k = both_so (is_kept (family.truths_at context values) front) (is_among n (declared_at (family.truths_at context values) front)) w.1 in
+      let k = both_so (is_kept (family.truths_at context values) front) (is_among n (in_scope_at (family.truths_at context values) front)) w.1 in
       record { valid = w.0; stays = k.0; is = inl (record { name = n; sign_is = refl; use_is = m; declared = k.1; free = λ e. absurd cc }) })
 ] refl h
 name_again context front (signs.Function f) values h = elim (has_main front) as (λ b. has_main front ≡ b → IsEither b (IsCallFault context front f (Some (Twice (Some values)))) (IsPrototypeFault context front f (Some (Twice (Some values)))) → IsExample context front (signs.Function f) values false) [

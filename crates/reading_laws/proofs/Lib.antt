@@ -2,7 +2,7 @@ pub mod Kept
 pub mod Walking
 pub mod Items
 pub mod Variants
-pub mod Declared
+pub mod OuterNames
 pub mod KnownNames
 pub mod Words
 pub mod Numbered
@@ -12,9 +12,13 @@ pub mod OutsideNames
 pub mod OutsideFaults
 pub mod Examples
 pub mod Shown
-pub mod DeclaredConstants
-pub mod KeptLocals
-pub mod KeptLocalConstants
+pub mod OuterConstants
+pub mod OuterScopes
+pub mod Pieces
+pub mod Scoping
+pub mod InnerNames
+pub mod InnerConstants
+pub mod InnerScopes
 pub mod Collecting
 pub mod NumberedFormulas
 pub mod LineAnswers

@@ -3,10 +3,10 @@ use Rattle.std.proofs.Common.{◌≡◌, ℕ, ◌+◌, Bool, true, false, List, 
 use Rattle.std.specs.Prelude.{nat_le, nat_lt, if◌then◌else◌}
 use Rattle.fam_outer.specs.declared.faults.FileCode.{FileCode}
 use Rattle.fam_outer.specs.declared.faults.FileCode.TheVariants.{FeatureInCode, TooManyVariables, TooManyValueTests, TooManyConstants}
-use Rattle.c_grammar.specs.declared.constants.NameKind.TheVariants as kinds
+use Rattle.c_grammar.specs.declared.constants.NameClass.{NameClass}
+use Rattle.c_grammar.specs.declared.constants.NameClass.TheVariants as classes
 use Rattle.c_grammar.specs.declared.items.Item.{Item}
-use Rattle.c_grammar.specs.Constants.{is_constant, kind_after}
-use Rattle.family_names.specs.Names.{NameContext, declared_by, constants_of, variables_of, values_of, is_among, is_feature, is_feature_function, test_count, value_fault, full_fault, new_name_fault, function_fault}
+use Rattle.family_names.specs.Names.{NameContext, declared_by, names_of_class, class_behind, values_of, is_among, is_feature, is_feature_function, test_count, value_fault, full_fault, new_name_fault, function_fault}
 use Rattle.reading_laws.proofs.Early.{is_of_name}
 
 abbrev pub some_code : FileCode → Option FileCode
@@ -31,9 +31,10 @@ not_of_value context used constants n code h e =
     no_fault_again code (is_among n used) (if tests then some_code TooManyValueTests else (if full then some_code TooManyConstants else None))
     (λ f. no_room code TooManyValueTests tests (if full then some_code TooManyConstants else None) h refl (λ g. no_room code TooManyConstants full None h refl (λ k. cc) g) f) e
 
-pub not_full : (constant : Bool) (constants variables : ℕ) (code : FileCode) → is_of_name code ≡ true → some_code code ≡ full_fault constant constants variables → ⊥
-not_full true constants variables code h e = no_room code TooManyConstants (nat_le 16 constants) None h refl (λ k. cc) e
-not_full false constants variables code h e = no_room code TooManyVariables (nat_le 16 variables) None h refl (λ k. cc) e
+pub not_full : (class : NameClass) (names values : ℕ) (code : FileCode) → is_of_name code ≡ true → some_code code ≡ full_fault class names values → ⊥
+not_full classes.Constant names values code h e = no_room code TooManyConstants (nat_le 16 (names + values)) None h refl (λ k. cc) e
+not_full classes.Variable names values code h e = no_room code TooManyVariables (nat_le 16 names) None h refl (λ k. cc) e
+not_full classes.Local names values code h e = no_room code TooManyVariables (nat_le 16 names) None h refl (λ k. cc) e
 
 -- that of a function neither
 pub not_of_function : (context : NameContext) (k : ℕ) (code : FileCode) → is_of_name code ≡ true → some_code code ≡ function_fault context k → ⊥
@@ -42,8 +43,9 @@ not_of_function context k code h e = no_room code FeatureInCode (is_feature_func
 -- the other fault of a new name is none of both
 pub not_new : (context : NameContext) (front : List Item) (n : ℕ) (code : FileCode) → is_of_name code ≡ true → some_code code ≡ new_name_fault context front n → ⊥
 not_new context front n code h e =
-    let constant : Bool = is_constant (kind_after kinds.Variable front) in
-    let held : ℕ = length (constants_of front) + length (values_of context front) in
-    let full : Option FileCode = full_fault constant held (length (variables_of front)) in
+    let class : NameClass = class_behind front in
+    let names : ℕ = length (names_of_class class front) in
+    let values : ℕ = length (values_of context front) in
+    let full : Option FileCode = full_fault class names values in
     no_room code FeatureInCode (is_feature context n) (if is_among n (declared_by front) then None else full) h refl
-    (λ k. no_fault_again code (is_among n (declared_by front)) full (λ g. not_full constant held (length (variables_of front)) code h g) k) e
+    (λ k. no_fault_again code (is_among n (declared_by front)) full (λ g. not_full class names values code h g) k) e

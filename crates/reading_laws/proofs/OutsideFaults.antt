@@ -19,10 +19,11 @@ use Rattle.c_grammar.specs.Constants.{last_from}
 use Rattle.c_grammar.specs.Grammar.{is_group}
 use Rattle.c_grammar.specs.Kept.{directive_of, kept_from}
 use Rattle.c_grammar.specs.Locals.{is_in_own, open_behind}
+use Rattle.c_grammar.specs.Scopes.{names_in_scope}
 use Rattle.family_names.specs.Names.{NameContext, is_value, is_feature, IsFirstNameFault}
 use Rattle.family_names.proofs.Features.{no_value}
 use Rattle.c_parser.specs.FamilyItems.{is_name, has}
-use Rattle.c_parser.specs.Names.{Outside, has_main, is_used_behind, constants_by, has_value, limit_fault, name_fault, change_fault, constant_fault, name_fault_from}
+use Rattle.c_parser.specs.Names.{Outside, has_main, is_used_behind, constants_in_scope, has_value, limit_fault, name_fault, change_fault, constant_fault, name_fault_from}
 use Rattle.c_parser.specs.Names as alone
 use Rattle.c_parser.specs.Reading.{outside}
 use Rattle.c_parser.specs.Variants.{given_of}
@@ -37,7 +38,7 @@ some_code code = Some code
 
 -- names with values, of which none are counted
 abbrev pub uncounted : List ℕ → Outside
-uncounted values = record { variables = 0; constants = 0; values = values }
+uncounted values = record { variables = 0; locals = 0; constants = 0; values = values }
 
 -- those of features, and of these the values
 abbrev pub features_at : NameContext → List ℤ → List ℕ
@@ -61,7 +62,7 @@ has_those context values n =
     ] refl)
 
 pub values_outside : (context : NameContext) (values : List ℤ) → AreOutside context (uncounted (values_at context values))
-values_outside context values = record { variables = refl; constants = refl; values = has_those context values }
+values_outside context values = record { variables = refl; locals = refl; constants = refl; values = has_those context values }
 
 -- ---- both are the same for the names of items
 
@@ -107,7 +108,7 @@ last_more last (y ∷ ys) x = last_more (Some y) ys x
 
 same_name : (ns ms : List ℕ) (before : List Item) (s : Sign) → AgreeAt ns ms s → name_fault (uncounted ns) before s ≡ name_fault (uncounted ms) before s
 same_name ns ms before (signs.Name n) h =
-    let declared : Bool = list_any (nat_eq n) (alone.declared_by before) in
+    let declared : Bool = list_any (nat_eq n) (names_in_scope before) in
     ap (λ (b : Bool). if is_used_behind before then (if b || (not (is_in_own before n) && declared) then None else some_code (Undeclared None))
     else (if declared then some_code (Twice None) else (if b then some_code FeatureInCode else limit_fault (uncounted ns) n))) h
 same_name ns ms before _ h = refl
@@ -120,7 +121,7 @@ same_constant ns ms constants (Some change) h =
 
 same_change : (ns ms : List ℕ) (before : List Item) (x : Item) → AgreeLast ns ms (last_from None before) → AgreeAt ns ms x.sign → change_fault (uncounted ns) before x ≡ change_fault (uncounted ms) before x
 same_change ns ms before x h k =
-    ap (λ (o : Option (FileCode × Place)). if has_main before then o else None) (same_constant ns ms (constants_by before) (changed_at before x) (agree_outside ns ms (open_behind before) (last_from None before) x h k))
+    ap (λ (o : Option (FileCode × Place)). if has_main before then o else None) (same_constant ns ms (constants_in_scope before) (changed_at before x) (agree_outside ns ms (open_behind before) (last_from None before) x h k))
 
 same_from : (ns ms : List ℕ) (before xs : List Item) → AgreeLast ns ms (last_from None before) → AgreeIn ns ms xs → name_fault_from (uncounted ns) before xs ≡ name_fault_from (uncounted ms) before xs
 same_from ns ms before [] h k = refl

@@ -1,5 +1,5 @@
 -- The names of a family by the grammar's own declarations.
-use Rattle.std.specs.Prelude.{◌≡◌, ℕ, Bool, not, List, [], ◌∷◌, ◌++◌}
+use Rattle.std.specs.Prelude.{◌≡◌, ℕ, Bool, true, false, not, List, [], ◌∷◌, ◌++◌}
 use Rattle.std.specs.List.{filter, list_any}
 use Rattle.std.specs.Str.{bytes_eq}
 use Rattle.fam_outer.specs.declared.dialect.Dialect.{Dialect}
@@ -9,10 +9,13 @@ use Rattle.cpp_lines.specs.Sections.{Told}
 use Rattle.c_tree.specs.declared.lists.Declared.{Declared}
 use Rattle.c_tree.specs.Project.{guards_hold}
 use Rattle.c_grammar.specs.declared.items.Item.{Item}
-use Rattle.c_grammar.specs.Grammar.{declared, Part, Declares, nothing, variables, prototype, void_prototype, definition, section, last_var, next_var, end_part, else_part, elif_part, File, Forms, file}
-use Rattle.c_grammar.specs.Locals.{declared_by}
-use Rattle.c_grammar.specs.LocalsOf.{of_kind, constant_locals_of_main, declared_in}
-use Rattle.family_names.specs.Names.{declared_at, constants_at}
+use Rattle.c_grammar.specs.Grammar.{declared, Part, Declares, nothing, variables, prototype, void_prototype, definition, section, last_var, next_var, end_part, else_part, elif_part, Outer, Writes, Listed, File, Forms}
+use Rattle.c_grammar.specs.declared.constants.NameKind.TheVariants as kinds
+use Rattle.c_grammar.specs.Constants.{kind_after}
+use Rattle.c_grammar.specs.Locals.{declares_behind, declared_by}
+use Rattle.c_grammar.specs.LocalsOf.{of_kind, scope_in, constant_scope_in, declared_in}
+use Rattle.c_tree.specs.Tree.{Code}
+use Rattle.family_names.specs.Names.{has_main, is_kept, in_scope_at, constants_at}
 use Rattle.c_parser.specs.declared.family.Family.{Family}
 use Rattle.c_parser.specs.FamilyItems.{HasItems, feature_names}
 use Rattle.c_parser.specs.FamilyReading.{IsFamilyOf}
@@ -28,10 +31,6 @@ holding truths ds = filter (λ d. guards_hold truths d.guards) ds
 abbrev pub DeclarationsAreOfTheGrammar : Type 0
 DeclarationsAreOfTheGrammar = (items : List Item) (f : File) → (forms : Forms items f) → declared_by items ≡ targets (declared_in forms)
 
--- where the conditions have truths, those of it are declared whose guards hold
-abbrev pub KeptDeclarationsHold : Type 0
-KeptDeclarationsHold = (truths : List Bool) (items : List Item) (f : File) → (forms : Forms items f) → declared_at truths items ≡ targets (holding truths (declared_in forms))
-
 -- the declarators of constants among those that a list of items declares before `main`, in its order
 abbrev pub constants_in : {part : Part} {us : List Item} {ds : List Declared} → Declares part us ds → List Declared
 constants_in (nothing gs) = []
@@ -46,21 +45,40 @@ constants_in (end_part p gs) = []
 constants_in (else_part p q gs d) = constants_in d
 constants_in (elif_part p n gs a b) = constants_in a ++ constants_in b
 
--- and among those of a file
-abbrev pub constants_of : {items : List Item} {f : File} → Forms items f → List Declared
-constants_of (file d m) = constants_in d ++ constant_locals_of_main m
+-- ---- scopes
 
--- where the conditions have truths, what stands as declared with `const` or `enum`, or by `#define`, is what the grammar has as
--- constants and whose guards hold
-abbrev pub KeptConstantsHold : Type 0
-KeptConstantsHold = (truths : List Bool) (items : List Item) (f : File) → (forms : Forms items f) → constants_at truths items ≡ targets (holding truths (constants_of forms))
+-- where the conditions have truths, the names in scope behind declarations before `main`, and the constants among them, are those that the
+-- grammar declares and whose guards hold
+pub record HasOuterScope (truths : List Bool) {us : List Item} {ds : List Declared} (d : Declares (Outer []) us ds) : Type 0 where
+  pub names : in_scope_at truths us ≡ targets (holding truths ds)
+  pub constants : constants_at truths us ≡ targets (holding truths (constants_in d))
+
+abbrev pub OuterScopesHold : Type 0
+OuterScopesHold = (truths : List Bool) (us : List Item) (ds : List Declared) → (d : Declares (Outer []) us ds) → HasOuterScope truths d
+
+-- a statement or a declaration of `main` that stays may begin behind these items
+pub record BeginsInMain (truths : List Bool) (before : List Item) : Type 0 where
+  pub main : has_main before ≡ true
+  pub kept : is_kept truths before ≡ true
+  pub free : declares_behind before ≡ false
+  pub variable : kind_after kinds.Variable before ≡ kinds.Variable
+
+-- behind statements of `main` the names in scope, and the constants among them, are those before the statements, and those that the grammar
+-- declares in these, outside of blocks that are left, and whose guards hold
+pub record HasInnerScope (truths : List Bool) (before : List Item) {us : List Item} {c : Code} (w : Writes Listed us c) : Type 0 where
+  pub names : in_scope_at truths (before ++ us) ≡ in_scope_at truths before ++ targets (holding truths (scope_in [] w))
+  pub constants : constants_at truths (before ++ us) ≡ constants_at truths before ++ targets (holding truths (constant_scope_in [] w))
+
+abbrev pub InnerScopesHold : Type 0
+InnerScopesHold = (truths : List Bool) (before us : List Item) (c : Code) → (w : Writes Listed us c) → BeginsInMain truths before → HasInnerScope truths before w
 
 -- these names but for those of features
 abbrev pub without_features : List (List ℕ) → List (List ℕ) → List (List ℕ)
 without_features features names = filter (λ name. not (list_any (bytes_eq name) features)) names
 
 -- the names are those that the spelled file declares before `main` and in it, each once: by their first declarations they stand as in its
--- text, and then the variables come before the constants; behind them come the features that its code names
+-- text, and then the variables come before those that `main` declares, and these before the constants; behind them come the features that
+-- its code names
 pub record AreFamilyNames (dialect : Dialect) (model : Plain) (bytes : List ℕ) (names : List (List ℕ)) : Type 0 where
   pub told : Told
   pub items : List Item

@@ -25,13 +25,14 @@ pub record IsShown (dialect : Dialect) (model : Plain) (bytes text : List ℕ) (
   pub items : HasItems dialect model bytes told listed
   pub refused : (includes : Includes) → IsPlainReadOver includes (given_of model.features (functions_of_bytes bytes) listed.names values) text (Err fault)
 
--- a name that some valid configuration uses and does not declare, or uses in its own declarator, or a function that it calls undeclared: so
--- is it in the text of the example's variant, at the same place
+-- a name that some valid configuration uses where no declaration of it is in scope, as behind its block or in its own declarator, or a function
+-- that it calls undeclared: so is it in the text of the example's variant, at the same place
 abbrev pub UndeclaredNamesAreShown : Type 0
 UndeclaredNamesAreShown = (dialect : Dialect) (model : Model) (bytes text : List ℕ) (values : List ℤ) (place : Place) → IsFamilyRefused dialect model bytes (Undeclared (Some values), place) → IsPreprocessed dialect (plain model) (truths_at values) bytes text
     → IsShown dialect (plain model) bytes text values (Undeclared None, place)
 
--- the same of a name that it declares twice, or a function that it declares with a value and with `void`
+-- the same of a name that it declares where an earlier declaration of it is in scope, or a function that it declares with a value and with
+-- `void`
 abbrev pub SecondDeclarationsAreShown : Type 0
 SecondDeclarationsAreShown = (dialect : Dialect) (model : Model) (bytes text : List ℕ) (values : List ℤ) (place : Place) → IsFamilyRefused dialect model bytes (Twice (Some values), place) → IsPreprocessed dialect (plain model) (truths_at values) bytes text
     → IsShown dialect (plain model) bytes text values (Twice None, place)

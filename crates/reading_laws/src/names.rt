@@ -1,7 +1,7 @@
 //! Laws of the names of a family: each function does nothing, and its contract is the law.
 #![tactic(auto)]
 
-ghost use Rattle.reading_laws.specs.Declaring.{DeclarationsAreOfTheGrammar, FamiliesHaveDeclaredNames, KeptConstantsHold, KeptDeclarationsHold};
+ghost use Rattle.reading_laws.specs.Declaring.{DeclarationsAreOfTheGrammar, FamiliesHaveDeclaredNames, InnerScopesHold, OuterScopesHold};
 ghost use Rattle.reading_laws.specs.Shown.{SecondDeclarationsAreShown, UndeclaredNamesAreShown};
 
 use c_grammar::laws::{leaving_out_makes_nothing_deeper, within_the_limits_is_a_file};
@@ -11,20 +11,22 @@ use cpp_lines::laws::{texts_are_read_once, variants_are_plain};
 use fam_outer::places_rise;
 
 /// What stands as declared by the items of a file with groups, each name before `main` and the names of declarations in it, is
-/// what the grammar declares: the targets of its declarators, in the order of the text; and where the conditions have truths,
-/// of those whose guards hold. What stands as a constant there is what the grammar has in a declaration with `const` or
-/// `enum`, or in a definition.
+/// what the grammar declares: the targets of its declarators, in the order of the text. Where the conditions have truths, the
+/// names in scope are those of declarators whose guards hold: behind declarations before `main` all that these declare; and
+/// behind statements of `main`, wherever they begin, the names in scope before them and those that they declare outside of
+/// their blocks, as a block gives up what it declares (ISO/IEC 9899:2011, 6.2.1). The constants among them are those that the
+/// grammar has in a declaration with `const` or `enum`, or in a definition.
 pub fn declarations_of_families_are_those_of_the_grammar()
     ensures all { DeclarationsAreOfTheGrammar }
-    ensures kept { KeptDeclarationsHold }
-    ensures constants { KeptConstantsHold }
+    ensures before_main { OuterScopesHold }
+    ensures in_main { InnerScopesHold }
 {
     declarations_are_those_of_the_grammar();
 }
 
-/// The names of a family are those that its file declares by the grammar, before `main` and in it, each once: the variables,
-/// and behind them the constants, both in the order of their first declaration; and behind these the features that its code
-/// names.
+/// The names of a family are those that its file declares by the grammar, before `main` and in it, each once: the variables that
+/// stand before `main`, behind them those that `main` declares, and behind these the constants, each in the order of their first
+/// declaration; and then the features that its code names.
 pub fn families_have_the_names_that_they_declare()
     ensures { FamiliesHaveDeclaredNames }
 {
@@ -38,10 +40,10 @@ pub fn families_have_the_names_that_they_declare()
     declarations_of_families_are_those_of_the_grammar();
 }
 
-/// Where a file with groups is refused for a name that some valid configuration uses without a declaration or in its own
-/// declarator, or declares twice, the example is such a configuration: the text of its variant, read over the names of the file
-/// and the values of the features among them, is refused with the same code at the same place. So it is with functions, which
-/// are called or declared.
+/// Where a file with groups is refused for a name that some valid configuration uses where no declaration of it is in scope, as
+/// behind its block or in its own declarator, or declares where an earlier declaration of it is in scope (ISO/IEC 9899:2011,
+/// 6.2.1), the example is such a configuration: the text of its variant, read over the names of the file and the values of the
+/// features among them, is refused with the same code at the same place. So it is with functions, which are called or declared.
 pub fn refusals_of_names_are_shown()
     ensures undeclared { UndeclaredNamesAreShown }
     ensures twice { SecondDeclarationsAreShown }

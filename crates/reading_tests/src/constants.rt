@@ -5,7 +5,7 @@
 
 use crate::family_reading;
 use crate::family_reading::{MIXED, SWITCH};
-use crate::files::{accepts, refuses};
+use crate::files::{accepts, refuse_all};
 use c_parser::read_plain;
 use fam_outer::Includes;
 use std::test::Fail;
@@ -31,193 +31,54 @@ fn constants_have_their_values(rt: HostRuntime) -> Result<(), Fail> {
 
 #[test]
 fn other_forms_are_refused(rt: HostRuntime) -> Result<(), Fail> {
-    let cases: [(&[u8], &str, u32, u32); 13] = [
-        // without a value, first or later
-        (b"const int k;\nint main(void) { }", "Syntax", 1, 12),
-        (
-            b"const int k = 1, j, i = 2;\nint main(void) { }",
-            "Syntax",
-            1,
-            19,
-        ),
-        (b"int const k;\nint main(void) { }", "Syntax", 1, 12),
-        (
-            b"static const int k = ;\nint main(void) { }",
-            "Syntax",
-            1,
-            22,
-        ),
-        // twice, between the words of the type, or before `static`
-        (
-            b"const const int k = 1;\nint main(void) { }",
-            "Syntax",
-            1,
-            7,
-        ),
-        (
-            b"const int const k = 1;\nint main(void) { }",
-            "Syntax",
-            1,
-            11,
-        ),
-        (
-            b"int const const k = 1;\nint main(void) { }",
-            "Syntax",
-            1,
-            11,
-        ),
-        (
-            b"signed const int k = 1;\nint main(void) { }",
-            "Syntax",
-            1,
-            14,
-        ),
-        (
-            b"const static int k = 1;\nint main(void) { }",
-            "Syntax",
-            1,
-            7,
-        ),
-        // of a function, and inside `main`
-        (
-            b"extern const int input(void);\nint main(void) { }",
-            "Syntax",
-            1,
-            8,
-        ),
-        (
-            b"const int input(void);\nint main(void) { }",
-            "Syntax",
-            1,
-            11,
-        ),
-        (b"int const main(void) { }", "Syntax", 1, 11),
-        (b"int main(void) { const int k; }", "Syntax", 1, 29),
-    ];
-    for (file, wanted, line, column) in cases {
-        refuses(&rt, rt.alloc(), file, wanted, line, column)?;
-    }
+    let rows = r"
+// without a value, first or later
+const int k;\nint main(void) { } => Syntax 1:12
+const int k = 1, j, i = 2;\nint main(void) { } => Syntax 1:19
+int const k;\nint main(void) { } => Syntax 1:12
+static const int k = ;\nint main(void) { } => Syntax 1:22
+// twice, between the words of the type, or before `static`
+const const int k = 1;\nint main(void) { } => Syntax 1:7
+const int const k = 1;\nint main(void) { } => Syntax 1:11
+int const const k = 1;\nint main(void) { } => Syntax 1:11
+signed const int k = 1;\nint main(void) { } => Syntax 1:14
+const static int k = 1;\nint main(void) { } => Syntax 1:7
+// of a function, and inside `main`
+extern const int input(void);\nint main(void) { } => Syntax 1:8
+const int input(void);\nint main(void) { } => Syntax 1:11
+int const main(void) { } => Syntax 1:11
+int main(void) { const int k; } => Syntax 1:29
+";
+    refuse_all(&rt, rt.alloc(), rows)?;
     Ok(())
 }
 
 #[test]
 fn changed_constants(rt: HostRuntime) -> Result<(), Fail> {
-    let cases: [(&[u8], &str, u32, u32); 18] = [
-        (
-            b"const int k = 2;\nint main(void) {\nk = 3;\n}",
-            "ChangedConstant",
-            3,
-            1,
-        ),
-        (
-            b"int const k = 2;\nint main(void) { k += 3; }",
-            "ChangedConstant",
-            2,
-            18,
-        ),
-        (
-            b"const int k = 2;\nint main(void) { k -= 3; }",
-            "ChangedConstant",
-            2,
-            18,
-        ),
-        (
-            b"const int k = 2;\nint main(void) { k *= 3; }",
-            "ChangedConstant",
-            2,
-            18,
-        ),
-        (
-            b"const int k = 2;\nint main(void) { k /= 3; }",
-            "ChangedConstant",
-            2,
-            18,
-        ),
-        (
-            b"const int k = 2;\nint main(void) { k %= 3; }",
-            "ChangedConstant",
-            2,
-            18,
-        ),
-        (
-            b"const int k = 2;\nint main(void) { k++; }",
-            "ChangedConstant",
-            2,
-            18,
-        ),
-        (
-            b"const int k = 2;\nint main(void) { k--; }",
-            "ChangedConstant",
-            2,
-            18,
-        ),
-        // at the name, which stands behind `++`
-        (
-            b"const int k = 2;\nint main(void) { ++k; }",
-            "ChangedConstant",
-            2,
-            20,
-        ),
-        (
-            b"const int k = 2;\nint main(void) { --\nk; }",
-            "ChangedConstant",
-            3,
-            1,
-        ),
-        (
-            b"const int k = 2;\nint main(void) { k = input(); }",
-            "ChangedConstant",
-            2,
-            18,
-        ),
-        (
-            b"int x;\nconst int k = 2, j = 3;\nint main(void) { if (x) x = j; else j = x; }",
-            "ChangedConstant",
-            3,
-            37,
-        ),
-        // the first of two faults, in both orders, and at one name the lower code
-        (
-            b"const int k = 2;\nint main(void) { k = y; }",
-            "ChangedConstant",
-            2,
-            18,
-        ),
-        (
-            b"const int k = 2;\nint main(void) { y = k; k = 1; }",
-            "Undeclared(None)",
-            2,
-            18,
-        ),
-        (
-            b"const int k = 2, k = 3;\nint main(void) { k = 1; }",
-            "Twice(None)",
-            1,
-            18,
-        ),
-        (
-            b"const int k = 2;\nint main(void) { k = 1; j = 1; }",
-            "ChangedConstant",
-            2,
-            18,
-        ),
-        (
-            b"const int k = 2;\nint main(void) { j = 1; }",
-            "Undeclared(None)",
-            2,
-            18,
-        ),
-        // an earlier phase
-        (
-            b"const int k = 2;\nint main(void) { k = 1; } int",
-            "Syntax",
-            2,
-            27,
-        ),
-    ];
-    for (file, wanted, line, column) in cases {
-        refuses(&rt, rt.alloc(), file, wanted, line, column)?;
-    }
+    let rows = r"
+const int k = 2;\nint main(void) {\nk = 3;\n} => ChangedConstant 3:1
+int const k = 2;\nint main(void) { k += 3; } => ChangedConstant 2:18
+const int k = 2;\nint main(void) { k -= 3; } => ChangedConstant 2:18
+const int k = 2;\nint main(void) { k *= 3; } => ChangedConstant 2:18
+const int k = 2;\nint main(void) { k /= 3; } => ChangedConstant 2:18
+const int k = 2;\nint main(void) { k %= 3; } => ChangedConstant 2:18
+const int k = 2;\nint main(void) { k++; } => ChangedConstant 2:18
+const int k = 2;\nint main(void) { k--; } => ChangedConstant 2:18
+// at the name, which stands behind `++`
+const int k = 2;\nint main(void) { ++k; } => ChangedConstant 2:20
+const int k = 2;\nint main(void) { --\nk; } => ChangedConstant 3:1
+const int k = 2;\nint main(void) { k = input(); } => ChangedConstant 2:18
+int x;\nconst int k = 2, j = 3;\nint main(void) { if (x) x = j; else j = x; } => ChangedConstant 3:37
+// the first of two faults, in both orders, and at one name the lower code
+const int k = 2;\nint main(void) { k = y; } => ChangedConstant 2:18
+const int k = 2;\nint main(void) { y = k; k = 1; } => Undeclared(None) 2:18
+const int k = 2, k = 3;\nint main(void) { k = 1; } => Twice(None) 1:18
+const int k = 2;\nint main(void) { k = 1; j = 1; } => ChangedConstant 2:18
+const int k = 2;\nint main(void) { j = 1; } => Undeclared(None) 2:18
+// an earlier phase
+const int k = 2;\nint main(void) { k = 1; } int => Syntax 2:27
+";
+    refuse_all(&rt, rt.alloc(), rows)?;
     Ok(())
 }
 

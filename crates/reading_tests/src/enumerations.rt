@@ -5,7 +5,7 @@
 
 use crate::family_reading;
 use crate::family_reading::SWITCH;
-use crate::files::{accepts, refuses};
+use crate::files::{accepts, refuse_all, refuses};
 use c_parser::read_plain;
 use fam_outer::Includes;
 use std::test::Fail;
@@ -31,43 +31,31 @@ fn enumerations_have_their_values(rt: HostRuntime) -> Result<(), Fail> {
 
 #[test]
 fn other_enumerations_are_refused(rt: HostRuntime) -> Result<(), Fail> {
-    let cases: [(&[u8], &str, u32, u32); 16] = [
-        // no name, two in a row, and two commas
-        (b"enum { };\nint main(void) { }", "Syntax", 1, 8),
-        (b"enum { a b };\nint main(void) { }", "Syntax", 1, 10),
-        (b"enum { a, , b };\nint main(void) { }", "Syntax", 1, 11),
-        // no number, and others than a number
-        (b"enum { a = };\nint main(void) { }", "Syntax", 1, 12),
-        (b"enum { a, b = a };\nint main(void) { }", "Syntax", 1, 15),
-        (b"enum { a = (1) };\nint main(void) { }", "Syntax", 1, 12),
-        // no brace, no semicolon, and a variable behind it
-        (b"enum { a; };\nint main(void) { }", "Syntax", 1, 9),
-        (b"enum { a } int x;\nint main(void) { }", "Syntax", 1, 12),
-        (b"enum { a } x;\nint main(void) { }", "Syntax", 1, 12),
-        // a tag, `static`, and inside `main`
-        (b"enum mode { a };\nint main(void) { }", "Syntax", 1, 6),
-        (b"static enum { a };\nint main(void) { }", "Syntax", 1, 8),
-        (b"int main(void) { enum { a }; }", "Syntax", 1, 18),
-        // what ends an `enum`, behind a variable
-        (b"int x, };\nint main(void) { }", "Syntax", 1, 8),
-        (b"int x };\nint main(void) { }", "Syntax", 1, 7),
-        // behind a name that would count past `int`
-        (
-            b"enum { a = 2147483647, b };\nint main(void) { }",
-            "Syntax",
-            1,
-            26,
-        ),
-        (
-            b"enum { a = 2147483647, b, c };\nint main(void) { }",
-            "Syntax",
-            1,
-            25,
-        ),
-    ];
-    for (file, wanted, line, column) in cases {
-        refuses(&rt, rt.alloc(), file, wanted, line, column)?;
-    }
+    let rows = r"
+// no name, two in a row, and two commas
+enum { };\nint main(void) { } => Syntax 1:8
+enum { a b };\nint main(void) { } => Syntax 1:10
+enum { a, , b };\nint main(void) { } => Syntax 1:11
+// no number, and others than a number
+enum { a = };\nint main(void) { } => Syntax 1:12
+enum { a, b = a };\nint main(void) { } => Syntax 1:15
+enum { a = (1) };\nint main(void) { } => Syntax 1:12
+// no brace, no semicolon, and a variable behind it
+enum { a; };\nint main(void) { } => Syntax 1:9
+enum { a } int x;\nint main(void) { } => Syntax 1:12
+enum { a } x;\nint main(void) { } => Syntax 1:12
+// a tag, `static`, and inside `main`
+enum mode { a };\nint main(void) { } => Syntax 1:6
+static enum { a };\nint main(void) { } => Syntax 1:8
+int main(void) { enum { a }; } => Syntax 1:18
+// what ends an `enum`, behind a variable
+int x, };\nint main(void) { } => Syntax 1:8
+int x };\nint main(void) { } => Syntax 1:7
+// behind a name that would count past `int`
+enum { a = 2147483647, b };\nint main(void) { } => Syntax 1:26
+enum { a = 2147483647, b, c };\nint main(void) { } => Syntax 1:25
+";
+    refuse_all(&rt, rt.alloc(), rows)?;
     Ok(())
 }
 

@@ -5,6 +5,7 @@ ghost use Rattle.cpp_conditions.specs.Distinct.{HaveFewAtoms};
 ghost use Rattle.cpp_conditions.specs.Naming.{AreFeatures};
 ghost use Rattle.cpp_conditions.specs.Validity.{plain, AreFit};
 
+use crate::rows::{is_row, parts_of};
 use c_parser::{Family, read_family};
 use cpp_conditions::Model;
 use fam_outer::{Dialect, FileRefusal, Includes, Place, Unknown};
@@ -78,6 +79,26 @@ pub(crate) fn refuses(
             assert_eq!(rt; place, Place { line, column });
         }
         _ => panic!(rt; "not refused: {wanted}"),
+    }
+    Ok(())
+}
+
+/// Files over a model with a fault, in a table: of each the code's text, and the place.
+pub(crate) fn refuse_all(
+    rt: &impl Abort,
+    alloc: Global,
+    features: &str,
+    rows: &str,
+) -> Result<(), Fail> {
+    for row in rows.lines().filter(|line| is_row(line)) {
+        let (file, told) = parts_of(alloc, row)?;
+        match read(alloc, features, file.as_bytes())? {
+            Err(FileRefusal::Fault { code, place }) => {
+                let shown = format!(in alloc; "{code:?} {}:{}", place.line, place.column)?;
+                assert_eq!(rt; shown.as_str(), told, "at {row}");
+            }
+            _ => panic!(rt; "not refused: {row}"),
+        }
     }
     Ok(())
 }

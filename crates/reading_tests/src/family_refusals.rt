@@ -1,6 +1,6 @@
 //! Files with groups that are refused: two faults of each code at least, and files with two faults.
 
-use crate::family_reading::{MIXED, NUMBER, SWITCH, refuses};
+use crate::family_reading::{MIXED, NUMBER, SWITCH, refuse_all, refuses};
 use std::test::Fail;
 
 #[test]
@@ -76,65 +76,23 @@ fn lines_are_refused(rt: HostRuntime) -> Result<(), Fail> {
 
 #[test]
 fn items_are_refused(rt: HostRuntime) -> Result<(), Fail> {
-    let cases: [(&[u8], &str, u32, u32); 14] = [
-        (b"#if A\n@\n#endif", "StrayByte", 2, 1),
-        (b"int main(void) { }\n#if A\n&\n#endif", "StrayByte", 3, 1),
-        (
-            b"int x;\nint main(void) {\n#if A\nx = 08;\n#endif\n}",
-            "Literal",
-            4,
-            5,
-        ),
-        (b"int x = 2147483648;\nint main(void) { }", "Literal", 1, 9),
-        (
-            b"#if A\nint x;\n#endif\nint main(void) { y = ; }",
-            "Syntax",
-            4,
-            22,
-        ),
-        (b"#if A\nint main(void) { }\n#endif\n", "Syntax", 2, 5),
-        (b"int main(void) { }\n#if A\n;\n#endif", "Syntax", 3, 1),
-        (b"int main(void) {\n#if A\n#endif\n", "Syntax", 4, 1),
-        (
-            b"int x;\nint main(void) {\nx =\n#if A\n1;\n#endif\n}",
-            "GroupInsideStatement",
-            4,
-            1,
-        ),
-        (
-            b"int x;\nint y;\nint main(void) {\nif (x) y = 1;\n#if A\nelse y = 2;\n#endif\n}\n",
-            "GroupInsideStatement",
-            6,
-            1,
-        ),
-        (
-            b"int x;\nint main(void) {\nif (x)\n#if A\nx = 1;\n#endif\n}",
-            "GroupInsideStatement",
-            4,
-            1,
-        ),
-        (
-            b"int x,\n#if A\ny,\n#endif\nz; int main() { }",
-            "GroupInsideStatement",
-            2,
-            1,
-        ),
-        (
-            b"int main(void) {\n#if A\n{\n#endif\n}\n}",
-            "GroupInsideStatement",
-            4,
-            1,
-        ),
-        (
-            b"int main(void) {\n#if A\nelse ;\n#endif\n}",
-            "GroupInsideStatement",
-            3,
-            1,
-        ),
-    ];
-    for (file, wanted, line, column) in cases {
-        refuses(&rt, rt.alloc(), MIXED, file, wanted, line, column)?;
-    }
+    let rows = r"
+#if A\n@\n#endif => StrayByte 2:1
+int main(void) { }\n#if A\n&\n#endif => StrayByte 3:1
+int x;\nint main(void) {\n#if A\nx = 08;\n#endif\n} => Literal 4:5
+int x = 2147483648;\nint main(void) { } => Literal 1:9
+#if A\nint x;\n#endif\nint main(void) { y = ; } => Syntax 4:22
+#if A\nint main(void) { }\n#endif\n => Syntax 2:5
+int main(void) { }\n#if A\n;\n#endif => Syntax 3:1
+int main(void) {\n#if A\n#endif\n => Syntax 4:1
+int x;\nint main(void) {\nx =\n#if A\n1;\n#endif\n} => GroupInsideStatement 4:1
+int x;\nint y;\nint main(void) {\nif (x) y = 1;\n#if A\nelse y = 2;\n#endif\n}\n => GroupInsideStatement 6:1
+int x;\nint main(void) {\nif (x)\n#if A\nx = 1;\n#endif\n} => GroupInsideStatement 4:1
+int x,\n#if A\ny,\n#endif\nz; int main() { } => GroupInsideStatement 2:1
+int main(void) {\n#if A\n{\n#endif\n}\n} => GroupInsideStatement 4:1
+int main(void) {\n#if A\nelse ;\n#endif\n} => GroupInsideStatement 3:1
+";
+    refuse_all(&rt, rt.alloc(), MIXED, rows)?;
     Ok(())
 }
 
@@ -243,88 +201,46 @@ fn names_are_refused(rt: HostRuntime) -> Result<(), Fail> {
 
 #[test]
 fn the_first_fault_decides(rt: HostRuntime) -> Result<(), Fail> {
-    let cases: [(&[u8], &str, u32, u32); 35] = [
-        // of two phases the earlier one, in both orders
-        (b"#if A\n/* x", "OpenComment", 2, 1),
-        (b"#foo\n\\\n", "Splice", 2, 1),
-        (b"\\\n#foo", "Splice", 1, 1),
-        (b"@\n#endif", "NoIf", 2, 1),
-        (b"@\n#if N * N\n#endif", "Condition(NonLinear)", 2, 1),
-        (b"#endif\n@", "NoIf", 1, 1),
-        (b"int = 1;\n08", "Literal", 2, 1),
-        (b"int = 1;\n#if A\n@\n#endif", "StrayByte", 3, 1),
-        (b"08\nint = 1;", "Literal", 1, 1),
-        (b"int x, x;\nint main(void) { x = }", "Syntax", 2, 22),
-        (
-            b"int main(void) {\ny = 1;\n#if A\n{\n#endif\n}",
-            "GroupInsideStatement",
-            5,
-            1,
-        ),
-        (b"int = 1;\nint main(void) { y = 1; }", "Syntax", 1, 5),
-        // of one phase the first place, in both orders
-        (b"/*\n*/#if A\n\\\n#endif", "CommentAtDirective", 1, 1),
-        (b"\\\n/*\n*/#if A\n#endif", "Splice", 1, 1),
-        (b"\\\n/* x", "Splice", 1, 1),
-        (b"/* \\\n", "OpenComment", 1, 1),
-        (b"#else\n#foo", "NoIf", 1, 1),
-        (b"#foo\n#else", "Directive", 1, 1),
-        (b"#if A\n#foo", "NoEndif", 1, 1),
-        (b"#foo\n#if A", "Directive", 1, 1),
-        (
-            b"#if N * N\n#else\n#else\n#endif",
-            "Condition(NonLinear)",
-            1,
-            1,
-        ),
-        (
-            b"#if A\n#else\n#else\n#endif\n#if N * N\n#endif",
-            "SecondElse",
-            3,
-            1,
-        ),
-        (b"@ 08", "StrayByte", 1, 1),
-        (b"08 @", "Literal", 1, 1),
-        (
-            b"int x,\n#if A\ny;\n#endif\nint = 1;",
-            "GroupInsideStatement",
-            2,
-            1,
-        ),
-        (b"int = 1;\nint x,\n#if A\ny;\n#endif", "Syntax", 1, 5),
-        (
-            b"int x, x, A;\nint main(void) { }",
-            "Twice(Some(Values { list: [0, 0, 0] }))",
-            1,
-            8,
-        ),
-        (b"int A, x, x;\nint main(void) { }", "FeatureInCode", 1, 5),
-        (b"int main(void) { y = A; }", "Undeclared(None)", 1, 18),
-        (b"int main(void) { A = y; }", "FeatureInCode", 1, 18),
-        (
-            b"int a,a,b,c,d,e,f,g,h,i,j,k,l,m,n,o,p,q;\nint main(void) { }",
-            "Twice(Some(Values { list: [0, 0, 0] }))",
-            1,
-            7,
-        ),
-        (
-            b"int a,b,c,d,e,f,g,h,i,j,k,l,m,n,o,p,q,a;\nint main(void) { }",
-            "TooManyVariables",
-            1,
-            37,
-        ),
-        // at one place the lower code
-        (b"#if A /*\n", "OpenComment", 1, 7),
-        (b"#if N * N", "NoEndif", 1, 1),
-        (
-            b"int a,b,c,d,e,f,g,h,i,j,k,l,m,n,o,p,A;\nint main(void) { }",
-            "FeatureInCode",
-            1,
-            37,
-        ),
-    ];
-    for (file, wanted, line, column) in cases {
-        refuses(&rt, rt.alloc(), MIXED, file, wanted, line, column)?;
-    }
+    let rows = r"
+// of two phases the earlier one, in both orders
+#if A\n/* x => OpenComment 2:1
+#foo\n\\n => Splice 2:1
+\\n#foo => Splice 1:1
+@\n#endif => NoIf 2:1
+@\n#if N * N\n#endif => Condition(NonLinear) 2:1
+#endif\n@ => NoIf 1:1
+int = 1;\n08 => Literal 2:1
+int = 1;\n#if A\n@\n#endif => StrayByte 3:1
+08\nint = 1; => Literal 1:1
+int x, x;\nint main(void) { x = } => Syntax 2:22
+int main(void) {\ny = 1;\n#if A\n{\n#endif\n} => GroupInsideStatement 5:1
+int = 1;\nint main(void) { y = 1; } => Syntax 1:5
+// of one phase the first place, in both orders
+/*\n*/#if A\n\\n#endif => CommentAtDirective 1:1
+\\n/*\n*/#if A\n#endif => Splice 1:1
+\\n/* x => Splice 1:1
+/* \\n => OpenComment 1:1
+#else\n#foo => NoIf 1:1
+#foo\n#else => Directive 1:1
+#if A\n#foo => NoEndif 1:1
+#foo\n#if A => Directive 1:1
+#if N * N\n#else\n#else\n#endif => Condition(NonLinear) 1:1
+#if A\n#else\n#else\n#endif\n#if N * N\n#endif => SecondElse 3:1
+@ 08 => StrayByte 1:1
+08 @ => Literal 1:1
+int x,\n#if A\ny;\n#endif\nint = 1; => GroupInsideStatement 2:1
+int = 1;\nint x,\n#if A\ny;\n#endif => Syntax 1:5
+int x, x, A;\nint main(void) { } => Twice(Some(Values { list: [0, 0, 0] })) 1:8
+int A, x, x;\nint main(void) { } => FeatureInCode 1:5
+int main(void) { y = A; } => Undeclared(None) 1:18
+int main(void) { A = y; } => FeatureInCode 1:18
+int a,a,b,c,d,e,f,g,h,i,j,k,l,m,n,o,p,q;\nint main(void) { } => Twice(Some(Values { list: [0, 0, 0] })) 1:7
+int a,b,c,d,e,f,g,h,i,j,k,l,m,n,o,p,q,a;\nint main(void) { } => TooManyVariables 1:37
+// at one place the lower code
+#if A /*\n => OpenComment 1:7
+#if N * N => NoEndif 1:1
+int a,b,c,d,e,f,g,h,i,j,k,l,m,n,o,p,A;\nint main(void) { } => FeatureInCode 1:37
+";
+    refuse_all(&rt, rt.alloc(), MIXED, rows)?;
     Ok(())
 }

@@ -3,6 +3,7 @@
 
 ghost use Rattle.std.specs.Prelude.{◌≡◌, IfOk, [], ◌∷◌};
 
+use crate::rows::{is_row, parts_of};
 use c_parser::{read_plain, read_plain_with};
 use c_tree::Names;
 use fam_outer::{FileRefusal, Includes, NoMemory, Place, Text};
@@ -43,6 +44,21 @@ pub(crate) fn refuses(
             assert_eq!(rt; place, Place { line, column });
         }
         _ => panic!(rt; "not refused"),
+    }
+    Ok(())
+}
+
+/// Files that are refused, in a table: of each the code's text, and the place.
+pub(crate) fn refuse_all(rt: &impl Abort, alloc: Global, rows: &str) -> Result<(), Fail> {
+    for row in rows.lines().filter(|line| is_row(line)) {
+        let (file, told) = parts_of(alloc, row)?;
+        match read_plain(alloc, Includes::Assert, file.as_bytes()) {
+            Err(FileRefusal::Fault { code, place }) => {
+                let shown = format!(in alloc; "{code:?} {}:{}", place.line, place.column)?;
+                assert_eq!(rt; shown.as_str(), told, "at {row}");
+            }
+            _ => panic!(rt; "not refused: {row}"),
+        }
     }
     Ok(())
 }
@@ -100,73 +116,41 @@ fn programs(rt: HostRuntime) -> Result<(), Fail> {
 
 #[test]
 fn refusals(rt: HostRuntime) -> Result<(), Fail> {
-    let cases: [(&[u8], &str, u32, u32); 29] = [
-        (b"int main(void) { } /* x", "OpenComment", 1, 20),
-        (b"int main(void) { }\\\n", "Splice", 1, 19),
+    let rows = r"
+int main(void) { } /* x => OpenComment 1:20
+int main(void) { }\\n => Splice 1:19
+/* a\n*/ #include <assert.h>\nint main(void) { } => CommentAtDirective 1:1
+#define X\nint main(void) { } => Directive 1:1
+int main(void) { }\n #else x => Directive 2:2
+int x;\nint main(void) {\n#if A\n#endif\n} => GroupHere 3:1
+#if A\n#define X\n => GroupHere 1:1
+int main(void) { @ } => StrayByte 1:18
+int x;\nint main(void) { x = 08; } => Literal 2:22
+ => Syntax 1:1
+int main(void) {\n => Syntax 2:1
+int x;\nint main(void) { if (x) x = 1; else x = 2; else x = 3; } => Syntax 2:44
+int goto;\nint main(void) { } => Syntax 1:5
+int main(void) { int y = 1; int; } => Syntax 1:32
+int main(void) { } int x; => Syntax 1:20
+static int main(void) { } => Syntax 1:12
+int x;\nint main(void) { x = 1 } => Syntax 2:24
+int x;\nint main(void) { x += ; } => Syntax 2:23
+int main(void) { x = 1; } => Undeclared(None) 1:18
+int x;\nint main(void) { x = y; } => Undeclared(None) 2:22
+int x;\nint main(void) { if (z > 0) x = 1; } => Undeclared(None) 2:22
+int x;\nint x;\nint main(void) { } => Twice(None) 2:5
+int x, y, x;\nint main(void) { } => Twice(None) 1:11
+int x, x; int main(void) { y = 1; } => Twice(None) 1:8
+int x, x; int main(void) { y = } => Syntax 1:32
+int a, b, c, d, e, f, g, h, i, j, k, l, m, n, o, p, q;\nint main(void) { } => TooManyVariables 1:53
+int a, b, c, d, e, f, g, h, i, j, k, l, m, n, o, p, a, q;\nint main(void) { } => Twice(None) 1:53
+";
+    refuse_all(&rt, rt.alloc(), rows)?;
+    let others: [(&[u8], &str, u32, u32); 2] = [
         (b"int main(void) { }\\\r\n", "Splice", 1, 19),
-        (
-            b"/* a\n*/ #include <assert.h>\nint main(void) { }",
-            "CommentAtDirective",
-            1,
-            1,
-        ),
-        (b"#define X\nint main(void) { }", "Directive", 1, 1),
-        (b"int main(void) { }\n #else x", "Directive", 2, 2),
-        (
-            b"int x;\nint main(void) {\n#if A\n#endif\n}",
-            "GroupHere",
-            3,
-            1,
-        ),
-        (b"#if A\n#define X\n", "GroupHere", 1, 1),
-        (b"int main(void) { @ }", "StrayByte", 1, 18),
         (b"\xffint main(void) { }", "StrayByte", 1, 1),
-        (b"int x;\nint main(void) { x = 08; }", "Literal", 2, 22),
-        (b"", "Syntax", 1, 1),
-        (b"int main(void) {\n", "Syntax", 2, 1),
-        (
-            b"int x;\nint main(void) { if (x) x = 1; else x = 2; else x = 3; }",
-            "Syntax",
-            2,
-            44,
-        ),
-        (b"int goto;\nint main(void) { }", "Syntax", 1, 5),
-        (b"int main(void) { int y = 1; int; }", "Syntax", 1, 32),
-        (b"int main(void) { } int x;", "Syntax", 1, 20),
-        (b"static int main(void) { }", "Syntax", 1, 12),
-        (b"int x;\nint main(void) { x = 1 }", "Syntax", 2, 24),
-        (b"int x;\nint main(void) { x += ; }", "Syntax", 2, 23),
-        (b"int main(void) { x = 1; }", "Undeclared(None)", 1, 18),
-        (
-            b"int x;\nint main(void) { x = y; }",
-            "Undeclared(None)",
-            2,
-            22,
-        ),
-        (
-            b"int x;\nint main(void) { if (z > 0) x = 1; }",
-            "Undeclared(None)",
-            2,
-            22,
-        ),
-        (b"int x;\nint x;\nint main(void) { }", "Twice(None)", 2, 5),
-        (b"int x, y, x;\nint main(void) { }", "Twice(None)", 1, 11),
-        (b"int x, x; int main(void) { y = 1; }", "Twice(None)", 1, 8),
-        (b"int x, x; int main(void) { y = }", "Syntax", 1, 32),
-        (
-            b"int a, b, c, d, e, f, g, h, i, j, k, l, m, n, o, p, q;\nint main(void) { }",
-            "TooManyVariables",
-            1,
-            53,
-        ),
-        (
-            b"int a, b, c, d, e, f, g, h, i, j, k, l, m, n, o, p, a, q;\nint main(void) { }",
-            "Twice(None)",
-            1,
-            53,
-        ),
     ];
-    for (file, wanted, line, column) in cases {
+    for (file, wanted, line, column) in others {
         refuses(&rt, rt.alloc(), file, wanted, line, column)?;
     }
     Ok(())

@@ -36,6 +36,8 @@ mod locals;
 #[cfg(test)]
 mod names;
 #[cfg(test)]
+mod rows;
+#[cfg(test)]
 mod sections;
 #[cfg(test)]
 mod short_forms;

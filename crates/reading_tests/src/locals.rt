@@ -3,12 +3,12 @@
 
 use crate::family_reading;
 use crate::family_reading::MIXED;
-use crate::files::{accepts, refuses, repeated};
+use crate::files::{accepts, refuse_all, refuses, repeated};
 use c_parser::read_plain;
 use fam_outer::Includes;
 use std::test::Fail;
 
-/// A declarator is a statement at its name, and the names stand behind those before `main`.
+/// A declarator is a statement at its name, and the names stand behind the variables before `main`, and before the constants.
 #[test]
 fn declarations_are_statements(rt: HostRuntime) -> Result<(), Fail> {
     let cases = [
@@ -18,7 +18,12 @@ fn declarations_are_statements(rt: HostRuntime) -> Result<(), Fail> {
         ),
         (
             "const int k = 2;\nint g;\nint main(void) { signed int const c = g, d = input(); { int32_t b; } }",
-            "Program { names: Names { list: [Text { bytes: [103] }, Text { bytes: [98] }, Text { bytes: [107] }, Text { bytes: [99] }, Text { bytes: [100] }] }, start: Values { list: [0, 0, 2, 0, 0] }, declared: Declarations { list: [] }, body: [Assign { place: Place { line: 3, column: 35 }, target: 3, value: Var(0) }, Input { place: Place { line: 3, column: 42 }, target: 4 }, Block { place: Place { line: 3, column: 55 }, body: [Input { place: Place { line: 3, column: 65 }, target: 1 }] }], end: Place { line: 3, column: 70 } }",
+            "Program { names: Names { list: [Text { bytes: [103] }, Text { bytes: [99] }, Text { bytes: [100] }, Text { bytes: [98] }, Text { bytes: [107] }] }, start: Values { list: [0, 0, 0, 0, 2] }, declared: Declarations { list: [] }, body: [Assign { place: Place { line: 3, column: 35 }, target: 1, value: Var(0) }, Input { place: Place { line: 3, column: 42 }, target: 2 }, Block { place: Place { line: 3, column: 55 }, body: [Input { place: Place { line: 3, column: 65 }, target: 3 }] }], end: Place { line: 3, column: 70 } }",
+        ),
+        // two declarations of one name, whose scopes are apart
+        (
+            "int main(void) { { int x; } int x = 1; }",
+            "Program { names: Names { list: [Text { bytes: [120] }] }, start: Values { list: [0] }, declared: Declarations { list: [] }, body: [Block { place: Place { line: 1, column: 18 }, body: [Input { place: Place { line: 1, column: 24 }, target: 0 }] }, Assign { place: Place { line: 1, column: 33 }, target: 0, value: Number(1) }], end: Place { line: 1, column: 40 } }",
         ),
     ];
     for (file, wanted) in cases {
@@ -29,46 +34,37 @@ fn declarations_are_statements(rt: HostRuntime) -> Result<(), Fail> {
 
 #[test]
 fn other_declarations_are_refused(rt: HostRuntime) -> Result<(), Fail> {
-    let cases: [(&[u8], &str, u32, u32); 14] = [
-        (b"int main(void) { int x = ; }", "Syntax", 1, 26),
-        (b"int main(void) { int x, = 1; }", "Syntax", 1, 25),
-        (b"int main(void) { int x y; }", "Syntax", 1, 24),
-        (b"int main(void) { int x = 1 = 2; }", "Syntax", 1, 28),
-        (b"int main(void) { int x = input() + 1; }", "Syntax", 1, 34),
-        (b"int main(void) { int x += 1; }", "Syntax", 1, 24),
-        (b"int main(void) { const x = 1; }", "Syntax", 1, 24),
-        (
-            b"int main(void) { const int const x = 1; }",
-            "Syntax",
-            1,
-            28,
-        ),
-        (b"int main(void) { static int x; }", "Syntax", 1, 18),
-        (b"int main(void) { enum { A }; }", "Syntax", 1, 18),
-        (b"int main(void) { if (1) int x; }", "Syntax", 1, 25),
-        (
-            b"int main(void) { if (1) ; else const int x = 1; }",
-            "Syntax",
-            1,
-            32,
-        ),
-        (
-            b"int main(void) { int x = 1, y = y; }",
-            "Undeclared(None)",
-            1,
-            33,
-        ),
-        (
-            b"int main(void) { { int x; } int x; }",
-            "Twice(None)",
-            1,
-            33,
-        ),
-    ];
-    for (file, wanted, line, column) in cases {
-        refuses(&rt, rt.alloc(), file, wanted, line, column)?;
-    }
+    let rows = r"
+int main(void) { int x = ; } => Syntax 1:26
+int main(void) { int x, = 1; } => Syntax 1:25
+int main(void) { int x y; } => Syntax 1:24
+int main(void) { int x = 1 = 2; } => Syntax 1:28
+int main(void) { int x = input() + 1; } => Syntax 1:34
+int main(void) { int x += 1; } => Syntax 1:24
+int main(void) { const x = 1; } => Syntax 1:24
+int main(void) { const int const x = 1; } => Syntax 1:28
+int main(void) { static int x; } => Syntax 1:18
+int main(void) { enum { A }; } => Syntax 1:18
+int main(void) { if (1) int x; } => Syntax 1:25
+int main(void) { if (1) ; else const int x = 1; } => Syntax 1:32
+int main(void) { int x = 1, y = y; } => Undeclared(None) 1:33
+int main(void) { int x; { int x; } } => Twice(None) 1:31
+int main(void) { { int x; } x = 1; } => Undeclared(None) 1:29
+";
+    refuse_all(&rt, rt.alloc(), rows)?;
     Ok(())
+}
+
+/// Each class has its own limit: 16 variables, 16 names of `main`, with `const` or without, and 16 constants.
+#[test]
+fn names_of_main_are_counted_apart(rt: HostRuntime) -> Result<(), Fail> {
+    let alloc = rt.alloc();
+    let full =
+        "int a,b,c,d,e,f,g,h,i,j,k,l,m,n,o,p;\nenum {A,B,C,D,E,F,G,H,I,J,K,L,M,N,O,P};\nint main(void) {\nint q,r,s,t,u,v,w,x,y,z,Q,R,S,T;\nconst int U=1,V=2";
+    let file = repeated(alloc, full, "", 0, ";\n}\n")?;
+    assert!(rt; read_plain(alloc, Includes::Assert, file.as_bytes()).is_ok());
+    let file = repeated(alloc, full, ",W=3", 1, ";\n}\n")?;
+    refuses(&rt, alloc, file.as_bytes(), "TooManyVariables", 5, 19)
 }
 
 #[test]

@@ -6,6 +6,7 @@ ghost use Rattle.cpp_conditions.specs.Naming.{AreFeatures};
 ghost use Rattle.cpp_conditions.specs.Validity.{plain, AreFit};
 
 use crate::family_reading::usual;
+use crate::rows::{is_row, parts_of};
 use cpp_conditions::Model;
 use cpp_lines::{Sections, preprocessed_text, read_sections};
 use fam_outer::{FileRefusal, Place, Unknown};
@@ -106,6 +107,21 @@ fn texts_have_sections(rt: HostRuntime) -> Result<(), Fail> {
     Ok(())
 }
 
+/// Texts with a fault, in a table: of each the code's text, and the place of a line's `#`.
+fn refuse_all(rt: &impl Abort, alloc: Global, rows: &str) -> Result<(), Fail> {
+    for row in rows.lines().filter(|line| is_row(line)) {
+        let (text, told) = parts_of(alloc, row)?;
+        match read(rt, alloc, text.as_bytes())? {
+            Err(FileRefusal::Fault { code, place }) => {
+                let shown = format!(in alloc; "{code:?} {}:{}", place.line, place.column)?;
+                assert_eq!(rt; shown.as_str(), told, "at {row}");
+            }
+            _ => panic!(rt; "not refused: {row}"),
+        }
+    }
+    Ok(())
+}
+
 /// A text with this fault at a line's `#` in a column.
 fn refuses(
     rt: &impl Abort,
@@ -128,46 +144,39 @@ fn refuses(
 
 #[test]
 fn sections_are_refused(rt: HostRuntime) -> Result<(), Fail> {
-    let cases: [(&[u8], &str, u32, u32); 30] = [
-        (b"x\n  #define A", "Directive", 2, 3),
-        (b"#else x", "Directive", 1, 1),
-        (b"#if A\n#endif A", "Directive", 2, 1),
-        (b"#if A\n#else A\n#else\n#endif", "Directive", 2, 1),
-        (b"#if A\n#foo\n#endif", "Directive", 2, 1),
-        (b"#endif", "NoIf", 1, 1),
-        (b"x\n #else", "NoIf", 2, 2),
-        (b"#elif (", "NoIf", 1, 1),
-        (b"#if A\n#endif\n#endif\n#if (", "NoIf", 3, 1),
-        (b"#if A", "NoEndif", 1, 1),
-        (b"#if (\n", "NoEndif", 1, 1),
-        (b"#if A\n#if (", "NoEndif", 1, 1),
-        (b"#if A\n#foo", "NoEndif", 1, 1),
-        (b"#if A\n#if B\n#endif", "NoEndif", 1, 1),
-        (b"#if A\n#endif\n #ifdef B\n#else", "NoEndif", 3, 2),
-        (b"#if A\n#elif (\n#else\n#else", "NoEndif", 1, 1),
-        (b"#if A\n#endif A\n#if (", "Directive", 2, 1),
-        (b"#if A\n#else\n#else\n#endif", "SecondElse", 3, 1),
-        (b"#if A\n#else\n#elif (\n#endif", "SecondElse", 3, 1),
-        (b"#if (\n#endif", "Condition(Syntax)", 1, 1),
-        (b"#if A\n#elif\n#endif", "Condition(Syntax)", 2, 1),
-        (b"#ifdef\n#endif", "Condition(Syntax)", 1, 1),
-        (b"#ifdef A B\n#endif", "Condition(Syntax)", 1, 1),
-        (b"#ifdef (A)\n#endif", "Condition(Syntax)", 1, 1),
-        (b"#ifndef 1A\n#endif", "Condition(Syntax)", 1, 1),
-        (b"#ifndef defined\n#endif", "Condition(Syntax)", 1, 1),
-        (b"#ifdef __A\n#endif", "Condition(ReservedName)", 1, 1),
-        (b"#if N * N\n#endif", "Condition(NonLinear)", 1, 1),
-        (b"#if N + 2147483649\n#endif", "Condition(TooLarge)", 1, 1),
-        (
-            b"#if A\n#if N * N\n#foo\n#endif\n#endif",
-            "Condition(NonLinear)",
-            2,
-            1,
-        ),
-    ];
-    for (text, wanted, line, column) in cases {
-        refuses(&rt, rt.alloc(), text, wanted, line, column)?;
-    }
+    let rows = r"
+x\n  #define A => Directive 2:3
+#else x => Directive 1:1
+#if A\n#endif A => Directive 2:1
+#if A\n#else A\n#else\n#endif => Directive 2:1
+#if A\n#foo\n#endif => Directive 2:1
+#endif => NoIf 1:1
+x\n #else => NoIf 2:2
+#elif ( => NoIf 1:1
+#if A\n#endif\n#endif\n#if ( => NoIf 3:1
+#if A => NoEndif 1:1
+#if (\n => NoEndif 1:1
+#if A\n#if ( => NoEndif 1:1
+#if A\n#foo => NoEndif 1:1
+#if A\n#if B\n#endif => NoEndif 1:1
+#if A\n#endif\n #ifdef B\n#else => NoEndif 3:2
+#if A\n#elif (\n#else\n#else => NoEndif 1:1
+#if A\n#endif A\n#if ( => Directive 2:1
+#if A\n#else\n#else\n#endif => SecondElse 3:1
+#if A\n#else\n#elif (\n#endif => SecondElse 3:1
+#if (\n#endif => Condition(Syntax) 1:1
+#if A\n#elif\n#endif => Condition(Syntax) 2:1
+#ifdef\n#endif => Condition(Syntax) 1:1
+#ifdef A B\n#endif => Condition(Syntax) 1:1
+#ifdef (A)\n#endif => Condition(Syntax) 1:1
+#ifndef 1A\n#endif => Condition(Syntax) 1:1
+#ifndef defined\n#endif => Condition(Syntax) 1:1
+#ifdef __A\n#endif => Condition(ReservedName) 1:1
+#if N * N\n#endif => Condition(NonLinear) 1:1
+#if N + 2147483649\n#endif => Condition(TooLarge) 1:1
+#if A\n#if N * N\n#foo\n#endif\n#endif => Condition(NonLinear) 2:1
+";
+    refuse_all(&rt, rt.alloc(), rows)?;
     Ok(())
 }
 

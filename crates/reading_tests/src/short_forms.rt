@@ -3,7 +3,7 @@
 
 use crate::family_reading;
 use crate::family_reading::MIXED;
-use crate::files::{accepts, refuses, repeated};
+use crate::files::{accepts, refuse_all, refuses, repeated};
 use c_parser::read_plain;
 use fam_outer::Includes;
 use std::test::Fail;
@@ -58,52 +58,40 @@ fn types_have_several_words(rt: HostRuntime) -> Result<(), Fail> {
 
 #[test]
 fn other_forms_are_refused(rt: HostRuntime) -> Result<(), Fail> {
-    let cases: [(&[u8], &str, u32, u32); 31] = [
-        (b"int x;\nint main(void) { ++x++; }", "Syntax", 2, 21),
-        (b"int x;\nint main(void) { ++++x; }", "Syntax", 2, 20),
-        (b"int x;\nint main(void) { ++(x); }", "Syntax", 2, 20),
-        (b"int x;\nint main(void) { x = ++x; }", "Syntax", 2, 22),
-        (b"int x;\nint main(void) { ++x = 1; }", "Syntax", 2, 22),
-        (b"int main(void) { ++; }", "Syntax", 1, 20),
-        (b"int x;\nint main(void) { x *= ; }", "Syntax", 2, 23),
-        (b"int x;\nint main(void) { x * = 2; }", "Syntax", 2, 20),
-        (b"int x;\nint main(void) { x %= input(); }", "Syntax", 2, 23),
-        (b"int x;\nint main(void) { x = 1 /= 2; }", "Syntax", 2, 24),
-        (b"int main(void) { ++y; }", "Undeclared(None)", 1, 20),
-        (b"int main(void) { y /= 1; }", "Undeclared(None)", 1, 18),
-        (
-            b"int x;\nint main(void) { x %= y; }",
-            "Undeclared(None)",
-            2,
-            23,
-        ),
-        (b"int int x;\nint main(void) { }", "Syntax", 1, 5),
-        (b"signed signed x;\nint main(void) { }", "Syntax", 1, 8),
-        (b"int32_t int x;\nint main(void) { }", "Syntax", 1, 9),
-        (b"int32_t signed x;\nint main(void) { }", "Syntax", 1, 9),
-        (b"signed int signed x;\nint main(void) { }", "Syntax", 1, 12),
-        (b"static x;\nint main(void) { }", "Syntax", 1, 8),
-        (b"static int signed main(void) { }", "Syntax", 1, 19),
-        (b"extern signed int x;\nint main(void) { }", "Syntax", 1, 19),
-        (b"signed int;\nint main(void) { }", "Syntax", 1, 11),
-        (b"int int32_t;\nint main(void) { }", "Syntax", 1, 5),
-        (b"int main(void) { int32_t int x; }", "Syntax", 1, 26),
-        (b"unsigned x;\nint main(void) { }", "Syntax", 1, 1),
-        (
-            b"int x;\nint main(void) { x = (void)input(); }",
-            "Syntax",
-            2,
-            23,
-        ),
-        (b"int main(void) { input; }", "Syntax", 1, 23),
-        (b"int main(void) { (input)(); }", "Syntax", 1, 19),
-        (b"int main(void) { input(1); }", "Syntax", 1, 24),
-        (b"int x;\nint main(void) { (void)x; }", "Syntax", 2, 24),
-        (b"void input(void);\nint main(void) { }", "Syntax", 1, 6),
-    ];
-    for (file, wanted, line, column) in cases {
-        refuses(&rt, rt.alloc(), file, wanted, line, column)?;
-    }
+    let rows = r"
+int x;\nint main(void) { ++x++; } => Syntax 2:21
+int x;\nint main(void) { ++++x; } => Syntax 2:20
+int x;\nint main(void) { ++(x); } => Syntax 2:20
+int x;\nint main(void) { x = ++x; } => Syntax 2:22
+int x;\nint main(void) { ++x = 1; } => Syntax 2:22
+int main(void) { ++; } => Syntax 1:20
+int x;\nint main(void) { x *= ; } => Syntax 2:23
+int x;\nint main(void) { x * = 2; } => Syntax 2:20
+int x;\nint main(void) { x %= input(); } => Syntax 2:23
+int x;\nint main(void) { x = 1 /= 2; } => Syntax 2:24
+int main(void) { ++y; } => Undeclared(None) 1:20
+int main(void) { y /= 1; } => Undeclared(None) 1:18
+int x;\nint main(void) { x %= y; } => Undeclared(None) 2:23
+int int x;\nint main(void) { } => Syntax 1:5
+signed signed x;\nint main(void) { } => Syntax 1:8
+int32_t int x;\nint main(void) { } => Syntax 1:9
+int32_t signed x;\nint main(void) { } => Syntax 1:9
+signed int signed x;\nint main(void) { } => Syntax 1:12
+static x;\nint main(void) { } => Syntax 1:8
+static int signed main(void) { } => Syntax 1:19
+extern signed int x;\nint main(void) { } => Syntax 1:19
+signed int;\nint main(void) { } => Syntax 1:11
+int int32_t;\nint main(void) { } => Syntax 1:5
+int main(void) { int32_t int x; } => Syntax 1:26
+unsigned x;\nint main(void) { } => Syntax 1:1
+int x;\nint main(void) { x = (void)input(); } => Syntax 2:23
+int main(void) { input; } => Syntax 1:23
+int main(void) { (input)(); } => Syntax 1:19
+int main(void) { input(1); } => Syntax 1:24
+int x;\nint main(void) { (void)x; } => Syntax 2:24
+void input(void);\nint main(void) { } => Syntax 1:6
+";
+    refuse_all(&rt, rt.alloc(), rows)?;
     Ok(())
 }
 

@@ -174,82 +174,82 @@ fn words_are_read(rt: HostRuntime) -> Result<(), Fail> {
 
 #[test]
 fn words_are_refused(rt: HostRuntime) -> Result<(), Fail> {
-    let cases = [
-        "F --narrow 0 --narrow 0",
-        "--narrow=0 --narrow=1",
-        "--delay",
-        "F --narrow",
-        "--delay -1",
-        "--delay -",
-        "--delay --",
-        "--inputs -5",
-        "--delay --narrow 1",
-        "--width 3",
-        "--Delay 3",
-        "--del 3",
-        "--=3",
-        "-d 3",
-        "-delay=3",
-        "--help",
-        "--version",
-        "-h",
-        "--delay=17",
-        "--delay 17",
-        "--delay 07",
-        "--delay=00",
-        "--delay=+1",
-        "--delay=",
-        "--delay=1=2",
-        "--delay=x",
-        "--narrow 9",
-        "--steps 1000001",
-        "--steps=18446744073709551616",
-        "--domain=intervals",
-        "--domain=Octagon",
-        "--domain=sharper",
-        "--domain=",
-        "--overflow trap",
-        "--widening type --widening type",
-        "--widening=thresholds --widening=type",
-        "F --widening",
-        "--widening --narrow 1",
-        "--widening=",
-        "--widening threshold",
-        "--widening=Type",
-        "--widening=8",
-        "--widen thresholds",
-        "--regions paths --regions paths",
-        "--regions=merged --regions=paths",
-        "--regions",
-        "--regions --narrow 1",
-        "--regions=",
-        "--regions merge",
-        "--regions=Merged",
-        "--regions=paths,merged",
-        "--region merged",
-        "--unknown zero --unknown zero",
-        "--unknown",
-        "--unknown --narrow 1",
-        "--unknown=",
-        "--unknown Refuse",
-        "--unknown 0",
-        "--includes skip --includes=skip",
-        "--includes",
-        "--includes=",
-        "--includes skipped",
-        "--include skip",
-        "--inputs=",
-        "--inputs=-0",
-        "--inputs=01",
-        "--inputs=+1",
-        "--inputs=1,,2",
-        "--inputs=1,",
-        "--inputs=--1",
-        "--inputs=2147483648",
-        "--inputs=-2147483649",
-        "--inputs=99999999999999999999",
-    ];
-    for line in cases {
+    let lines = r"
+F --narrow 0 --narrow 0
+--narrow=0 --narrow=1
+--delay
+F --narrow
+--delay -1
+--delay -
+--delay --
+--inputs -5
+--delay --narrow 1
+--width 3
+--Delay 3
+--del 3
+--=3
+-d 3
+-delay=3
+--help
+--version
+-h
+--delay=17
+--delay 17
+--delay 07
+--delay=00
+--delay=+1
+--delay=
+--delay=1=2
+--delay=x
+--narrow 9
+--steps 1000001
+--steps=18446744073709551616
+--domain=intervals
+--domain=Octagon
+--domain=sharper
+--domain=
+--overflow trap
+--widening type --widening type
+--widening=thresholds --widening=type
+F --widening
+--widening --narrow 1
+--widening=
+--widening threshold
+--widening=Type
+--widening=8
+--widen thresholds
+--regions paths --regions paths
+--regions=merged --regions=paths
+--regions
+--regions --narrow 1
+--regions=
+--regions merge
+--regions=Merged
+--regions=paths,merged
+--region merged
+--unknown zero --unknown zero
+--unknown
+--unknown --narrow 1
+--unknown=
+--unknown Refuse
+--unknown 0
+--includes skip --includes=skip
+--includes
+--includes=
+--includes skipped
+--include skip
+--inputs=
+--inputs=-0
+--inputs=01
+--inputs=+1
+--inputs=1,,2
+--inputs=1,
+--inputs=--1
+--inputs=2147483648
+--inputs=-2147483649
+--inputs=99999999999999999999
+";
+    for line in lines.lines().skip(1) {
         let text = told(rt.alloc(), line)?;
         assert_eq!(rt; text.as_str(), "refused", "at {line}");
     }

@@ -1,4 +1,5 @@
 use Rattle.std.proofs.Common.{◌≡◌, true, false, List, ℕ, ap, ◌∙◌}
+use Rattle.c_grammar.specs.Scoped.{still}
 use Rattle.c_parser.specs.Names.{constant_fault}
 use Rattle.c_parser.specs.Judging.{counted}
 use Rattle.c_parser.proofs.Holding.{unchanged, changed}
@@ -13,6 +14,6 @@ pub returns : goal.returns
 returns c = λ before k h limits.
     let main : c.args.known.now.in_main ≡ true = cc in
     c.constant_fault.ensures
-    ∙ ap (λ (ns : List ℕ). constant_fault ns c.change.result) c.deref.ensures.value
-    ∙ ap (constant_fault c.args.constants.now.names.items) (c.change.ensures before h.track)
+    ∙ ap (λ (ns : List ℕ). constant_fault ns c.change.result) c.items.ensures
+    ∙ ap (constant_fault (still 0 c.args.constants.now.names)) (c.change.ensures before h.track)
     ∙ changed limits before c.args.known.now c.args.constants.now c.args.item k h main

@@ -14,20 +14,20 @@ returns-in_err-functions-clause-reads c =
 pub returns-clause-reads : goal.returns-clause-reads
 returns-clause-reads c =
     own_reads c.args.includes c.args.bytes.now _ c.read_over.result
-    (c.in_ok-functions.ensures.own ∙ ap (λ (fs : List (List ℕ)). given_in fs c.in_ok-functions.made.names (record { variables = c.in_ok-functions.made.variables; constants = c.in_ok-functions.made.constants })) (sym c.items.ensures)
-    ∙ ap (λ (ns : List (List ℕ)). given_in c.items.result.now ns (record { variables = c.in_ok-functions.made.variables; constants = c.in_ok-functions.made.constants })) (sym c.items-2.ensures)) c.read_over.ensures.reads
+    (c.in_ok-functions.ensures.own ∙ ap (λ (fs : List (List ℕ)). given_in fs c.in_ok-functions.made.names (record { variables = c.in_ok-functions.made.variables; locals = c.in_ok-functions.made.locals; constants = c.in_ok-functions.made.constants })) (sym c.items.ensures)
+    ∙ ap (λ (ns : List (List ℕ)). given_in c.items.result.now ns (record { variables = c.in_ok-functions.made.variables; locals = c.in_ok-functions.made.locals; constants = c.in_ok-functions.made.constants })) (sym c.items-2.ensures)) c.read_over.ensures.reads
 
 pub returns-clause-names : goal.returns-clause-names
 returns-clause-names c =
     read_declared c.names_are_declared.ensures.names c.args.includes c.args.bytes.now c.read_over.result
     (own_reads c.args.includes c.args.bytes.now _ c.read_over.result
-    (c.in_ok-functions.ensures.own ∙ ap (λ (fs : List (List ℕ)). given_in fs c.in_ok-functions.made.names (record { variables = c.in_ok-functions.made.variables; constants = c.in_ok-functions.made.constants })) (sym c.items.ensures)
-    ∙ ap (λ (ns : List (List ℕ)). given_in c.items.result.now ns (record { variables = c.in_ok-functions.made.variables; constants = c.in_ok-functions.made.constants })) (sym c.items-2.ensures)) c.read_over.ensures.reads)
+    (c.in_ok-functions.ensures.own ∙ ap (λ (fs : List (List ℕ)). given_in fs c.in_ok-functions.made.names (record { variables = c.in_ok-functions.made.variables; locals = c.in_ok-functions.made.locals; constants = c.in_ok-functions.made.constants })) (sym c.items.ensures)
+    ∙ ap (λ (ns : List (List ℕ)). given_in c.items.result.now ns (record { variables = c.in_ok-functions.made.variables; locals = c.in_ok-functions.made.locals; constants = c.in_ok-functions.made.constants })) (sym c.items-2.ensures)) c.read_over.ensures.reads)
 
 pub returns-clause-program : goal.returns-clause-program
 returns-clause-program c =
     own_formed c.names_are_declared.ensures.few c.args.includes c.args.bytes.now c.read_over.result
     (own_reads c.args.includes c.args.bytes.now _ c.read_over.result
-    (c.in_ok-functions.ensures.own ∙ ap (λ (fs : List (List ℕ)). given_in fs c.in_ok-functions.made.names (record { variables = c.in_ok-functions.made.variables; constants = c.in_ok-functions.made.constants })) (sym c.items.ensures)
-    ∙ ap (λ (ns : List (List ℕ)). given_in c.items.result.now ns (record { variables = c.in_ok-functions.made.variables; constants = c.in_ok-functions.made.constants })) (sym c.items-2.ensures)) c.read_over.ensures.reads)
+    (c.in_ok-functions.ensures.own ∙ ap (λ (fs : List (List ℕ)). given_in fs c.in_ok-functions.made.names (record { variables = c.in_ok-functions.made.variables; locals = c.in_ok-functions.made.locals; constants = c.in_ok-functions.made.constants })) (sym c.items.ensures)
+    ∙ ap (λ (ns : List (List ℕ)). given_in c.items.result.now ns (record { variables = c.in_ok-functions.made.variables; locals = c.in_ok-functions.made.locals; constants = c.in_ok-functions.made.constants })) (sym c.items-2.ensures)) c.read_over.ensures.reads)
     c.read_over.ensures.program

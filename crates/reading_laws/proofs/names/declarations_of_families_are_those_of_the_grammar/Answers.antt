@@ -1,12 +1,12 @@
-use Rattle.reading_laws.proofs.KeptLocals.{kept_declarations_hold}
-use Rattle.reading_laws.proofs.KeptLocalConstants.{kept_constants_hold}
+use Rattle.reading_laws.proofs.InnerScopes.{inner_scopes_hold}
+use Rattle.reading_laws.proofs.OuterScopes.{outer_scopes_hold}
 use Rattle.reading_laws.proofs.names.declarations_of_families_are_those_of_the_grammar.Goals as goal
 
 pub returns-clause-all : goal.returns-clause-all
 returns-clause-all c = c.declarations_are_those_of_the_grammar.ensures
 
-pub returns-clause-kept : goal.returns-clause-kept
-returns-clause-kept c = kept_declarations_hold
+pub returns-clause-before_main : goal.returns-clause-before_main
+returns-clause-before_main c = outer_scopes_hold
 
-pub returns-clause-constants : goal.returns-clause-constants
-returns-clause-constants c = kept_constants_hold
+pub returns-clause-in_main : goal.returns-clause-in_main
+returns-clause-in_main c = inner_scopes_hold

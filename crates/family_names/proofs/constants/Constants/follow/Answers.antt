@@ -1,5 +1,5 @@
-use Rattle.std.proofs.Common.{◌≡◌, Bool, not, ◌&&◌, ap, ◌∙◌}
-use Rattle.family_names.specs.Judging.{with_constant}
+use Rattle.std.proofs.Common.{◌≡◌, Bool, not, ◌&&◌, sym, subst, ◌∙◌}
+use Rattle.family_names.specs.Judging.{FollowsConstants}
 use Rattle.family_names.proofs.Holding.{held_more, is_asked, is_not_asked}
 use Rattle.family_names.proofs.constants.Constants.follow.Goals as goal
 use Rattle.family_names.proofs.constants.Constants.follow.Goals.{then-is_constant, else-is_constant}
@@ -12,6 +12,7 @@ returns c = λ before k h.
       | else-is_constant w ↦ is_not_asked c.is_constant.result used c.if-is_constant.is_constant w.if-is_constant.false w.is_constant-is
     ] in
     held_more before c.args.item c.args.self.now
-    (record { track = c.follow.new.self; declarations = c.declare_constant.new.declarations })
+    (record { track = c.follow.new.self; declarations = c.follow_constants.new.declarations })
     c.args.seen.now c.is_constant.result used k h (c.follow.ensures before h.track) (c.is_constant.ensures before h.track) (c.uses_next-is_used.ensures before k h.track)
-    (c.in_ok-declare_constant.ensures ∙ ap (λ (b : Bool). with_constant c.args.self.now.declarations.items b c.args.seen.now.groups c.args.item.sign) is)
+    (subst (λ (b : Bool). FollowsConstants c.args.self.now.declarations b c.args.seen.now.groups c.args.seen.now.in_main c.args.item.sign c.follow_constants.new.declarations) is
+    (c.in_ok-follow_constants.ensures h.sound (h.inside ∙ sym k.main)))

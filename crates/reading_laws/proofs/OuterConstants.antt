@@ -1,6 +1,6 @@
 -- The names that stand before `main` in declarations with `const` or `enum`, or behind `#define`, are the targets of the constants that the
 -- grammar finds there.
-use Rattle.std.proofs.Common.{◌≡◌, ℕ, Bool, true, false, ◌||◌, cond, List, [], ◌∷◌, ◌++◌, refl, sym, ap, ◌∙◌, append_assoc}
+use Rattle.std.proofs.Common.{◌≡◌, ℕ, Bool, true, cond, List, [], ◌∷◌, ◌++◌, refl, sym, ap, ◌∙◌, append_assoc}
 use Rattle.std.specs.Prelude.{ℤ}
 use Rattle.fam_outer.specs.declared.faults.Place.{Place}
 use Rattle.cpp_groups.specs.declared.section.Section.{Section}
@@ -17,16 +17,12 @@ use Rattle.c_grammar.specs.declared.items.Sign.{Sign}
 use Rattle.c_grammar.specs.declared.items.Sign.TheVariants as signs
 use Rattle.c_grammar.specs.Constants.{constants_from}
 use Rattle.c_grammar.specs.Grammar.{at, Callable, of_input, of_function, Optional, absent, present, Typed, int, int32, signed, signed_int, int_signed, Qualifier, Unqualified, Constant, Counted, Qualified, unqualified, const_before, const_behind, Begins, only_type, then_type, enumeration, Declarator, bare, positive, negative, counted, Ending, variables_end, constants_end, enumeration_end, comma_end, Defines, defined, negative_defined, enclosed, negative_enclosed, Part, Outer, Vars, Later, Declares, nothing, variables, prototype, void_prototype, definition, section, last_var, next_var, end_part, else_part, elif_part}
-use Rattle.c_grammar.specs.Kept.{kept_from}
-use Rattle.c_grammar.proofs.Guards.{seeks}
-use Rattle.c_grammar.specs.Locals.{is_main, is_declaring, declarations_from, names_of}
+use Rattle.c_grammar.proofs.Guards.{seeks, else_matches, in_true, in_false}
 use Rattle.c_grammar.specs.LocalsOf.{of_kind}
 use Rattle.family_names.proofs.Holding.{kept_in}
 use Rattle.c_parser.specs.Names.{targets}
-use Rattle.family_names.specs.AroundMain.{has_main}
-use Rattle.c_parser.proofs.LocalDeclarations.{names_before, definition_names}
 use Rattle.reading_laws.specs.Declaring.{holding, constants_in}
-use Rattle.reading_laws.proofs.Declared.{IsSilent, silent, silent_both, static_silent, extern_silent, outer_silent, callable_silent, void_silent, in_true, in_false, else_matches, both_held, definition_first, one_held, holds}
+use Rattle.reading_laws.proofs.OuterNames.{standing, IsSilent, silent, silent_both, static_silent, extern_silent, outer_silent, callable_silent, void_silent, both_held, definition_first, one_held, holds}
 
 -- what the names of declarators are
 abbrev pub kind_of : Qualifier → NameKind
@@ -105,131 +101,99 @@ record Leaves (us : List Item) : Type 0 where
 
 variable_left : {us : List Item} {x : ℕ} {n : ℤ} → Declarator Unqualified us x n → Leaves us
 variable_left (bare p x) = record { rest = []; is_silent = tt; are = λ w. refl }
-variable_left (positive p q r x n) = record { rest = at q signs.Equals ∷ at r (signs.Number n) ∷ []; is_silent = (refl, refl, refl, refl, (refl, refl, refl, refl, tt)); are = λ w. refl }
+variable_left (positive p q r x n) = record { rest = at q signs.Equals ∷ at r (signs.Number n) ∷ []; is_silent = (refl, refl, (refl, refl, tt)); are = λ w. refl }
 variable_left (negative p q r s x n) = record {
   rest = at q signs.Equals ∷ at r (signs.Oper Sub) ∷ at s (signs.Number n) ∷ [];
-  is_silent = (refl, refl, refl, refl, (refl, refl, refl, refl, (refl, refl, refl, refl, tt)));
+  is_silent = (refl, refl, (refl, refl, (refl, refl, tt)));
   are = λ w. refl;
 }
 
 variables_left : {gs : List Guard} {us : List Item} {ds : List Declared} → Declares (Vars Unqualified gs) us ds → Leaves us
 variables_left (last_var gs {us} d (variables_end p)) = let l = variable_left d in record {
   rest = l.rest ++ at p signs.Semicolon ∷ [];
-  is_silent = silent_both l.rest (at p signs.Semicolon ∷ []) l.is_silent (refl, refl, refl, refl, tt);
+  is_silent = silent_both l.rest (at p signs.Semicolon ∷ []) l.is_silent (refl, refl, tt);
   are = λ w. ap (constants_from kinds.Variable) (append_assoc us (at p signs.Semicolon ∷ []) w) ∙ l.are (at p signs.Semicolon ∷ w) ∙ sym (append_assoc l.rest (at p signs.Semicolon ∷ []) (constants_from kinds.Variable w));
 }
 variables_left (next_var p gs {us} {vs} d v) = let l = variable_left d in let m = variables_left v in record {
   rest = l.rest ++ at p signs.Comma ∷ m.rest;
-  is_silent = silent_both l.rest (at p signs.Comma ∷ m.rest) l.is_silent (refl, refl, refl, refl, m.is_silent);
+  is_silent = silent_both l.rest (at p signs.Comma ∷ m.rest) l.is_silent (refl, refl, m.is_silent);
   are = λ w. ap (constants_from kinds.Variable) (append_assoc us (at p signs.Comma ∷ vs) w) ∙ l.are (at p signs.Comma ∷ (vs ++ w))
       ∙ ap (λ (y : List Item). l.rest ++ at p signs.Comma ∷ y) (m.are w) ∙ sym (append_assoc l.rest (at p signs.Comma ∷ m.rest) (constants_from kinds.Variable w));
 }
 
--- ---- before `main` no item is left out that declares nothing
-
--- the names that are declared from here on before `main`
-abbrev pub before_here : List Bool → List Section → List Item → List ℕ
-before_here t secs w = names_of (kept_from t secs (declarations_from false false w))
-
-any_declaring : (a b : Bool) (w : List Item) → declarations_from false a w ≡ declarations_from false b w
-any_declaring a b [] = refl
-any_declaring a b (x ∷ xs) = refl
-
-all_stay : (us w : List Item) → has_main us ≡ false → declarations_from false false (us ++ w) ≡ us ++ declarations_from false false w
-all_stay [] w h = refl
-all_stay (x ∷ xs) w h =
-    ap (λ (ys : List Item). x ∷ ys)
-    (elim (is_main x.sign) as (λ b. (b || has_main xs) ≡ false → declarations_from b (is_declaring x.sign) (xs ++ w) ≡ xs ++ declarations_from false false w) [
-      | true ↦ λ g. absurd cc
-      | false ↦ λ g. any_declaring (is_declaring x.sign) false (xs ++ w) ∙ all_stay xs w g
-    ] h)
-
-silent_main : (us : List Item) → IsSilent us → has_main us ≡ false
-silent_main [] h = refl
-silent_main (x ∷ xs) h = ap (λ (b : Bool). b || has_main xs) h.3 ∙ silent_main xs h.4
-
-silent_before : (t : List Bool) (secs : List Section) (us w : List Item) → IsSilent us → before_here t secs (us ++ w) ≡ before_here t secs w
-silent_before t secs us w h = ap (λ (y : List Item). names_of (kept_from t secs y)) (all_stay us w (silent_main us h)) ∙ silent t secs us (declarations_from false false w) h
-
-holds_before : {gs : List Guard} {us : List Item} {ds : List Declared} {kind : Qualifier} (t : List Bool) → Declares (Vars kind gs) us ds → (secs : List Section) → guards_hold t gs ≡ all_kept secs → (w : List Item)
-    → before_here t secs (us ++ w) ≡ targets (holding t ds) ++ before_here t secs w
-holds_before {us = us} t v secs h w = ap (λ (y : List Item). names_of (kept_from t secs y)) (all_stay us w (names_before v).no_main) ∙ holds t v secs h (declarations_from false false w)
-
-definition_before : {us : List Item} {x : ℕ} {n : ℤ} (t : List Bool) (secs : List Section) (w : List Item) → Defines us x n → before_here t secs (us ++ w) ≡ cond (all_kept secs) (x ∷ []) [] ++ before_here t secs w
-definition_before {us} t secs w o = ap (λ (y : List Item). names_of (kept_from t secs y)) (all_stay us w (definition_names [] o).no_main) ∙ definition_first t secs (declarations_from false false w) o
-
 -- ---- declarations
 
-abbrev pub KeptAfter : List Bool → List Section → List Item → List ℕ
-KeptAfter t secs w = before_here t secs (constants_from kinds.Variable w)
+-- the constants that stand from here on
+abbrev pub constants_standing : List Bool → List Section → List Item → List ℕ
+constants_standing t secs w = standing t secs (constants_from kinds.Variable w)
 
 vars_hold : {gs : List Guard} {us : List Item} {ds : List Declared} (t : List Bool) (kind : Qualifier) (secs : List Section) → guards_hold t gs ≡ all_kept secs → (w : List Item) → Declares (Vars kind gs) us ds
-    → before_here t secs (constants_from (kind_of kind) (us ++ w)) ≡ targets (holding t (of_kind kind ds)) ++ KeptAfter t secs w
-vars_hold {us = us} t Unqualified secs h w v = let l = variables_left v in ap (before_here t secs) (l.are w) ∙ silent_before t secs l.rest (constants_from kinds.Variable w) l.is_silent
-vars_hold {us = us} t Constant secs h w v = ap (before_here t secs) (constants_all w v) ∙ holds_before t v secs h (constants_from kinds.Variable w)
-vars_hold {us = us} t (Counted last) secs h w v = ap (before_here t secs) (constants_all w v) ∙ holds_before t v secs h (constants_from kinds.Variable w)
+    → standing t secs (constants_from (kind_of kind) (us ++ w)) ≡ targets (holding t (of_kind kind ds)) ++ constants_standing t secs w
+vars_hold {us = us} t Unqualified secs h w v = let l = variables_left v in ap (standing t secs) (l.are w) ∙ silent t secs l.rest (constants_from kinds.Variable w) l.is_silent
+vars_hold {us = us} t Constant secs h w v = ap (standing t secs) (constants_all w v) ∙ holds t v secs h (constants_from kinds.Variable w)
+vars_hold {us = us} t (Counted last) secs h w v = ap (standing t secs) (constants_all w v) ∙ holds t v secs h (constants_from kinds.Variable w)
 
 abbrev ConstantsHold : List Bool → Part → List Item → List Declared → Type 0
-ConstantsHold t (Outer gs) us cs = (secs : List Section) → guards_hold t gs ≡ all_kept secs → (w : List Item) → KeptAfter t secs (us ++ w) ≡ targets (holding t cs) ++ KeptAfter t secs w
+ConstantsHold t (Outer gs) us cs = (secs : List Section) → guards_hold t gs ≡ all_kept secs → (w : List Item) → constants_standing t secs (us ++ w) ≡ targets (holding t cs) ++ constants_standing t secs w
 ConstantsHold t (Vars kind gs) us cs = Unit {0}
-ConstantsHold t (Later gs) us cs = (sec : Section) (secs : List Section) → guards_hold t gs ≡ seeks sec secs → (w : List Item) → KeptAfter t (sec ∷ secs) (us ++ w) ≡ targets (holding t cs) ++ KeptAfter t secs w
+ConstantsHold t (Later gs) us cs = (sec : Section) (secs : List Section) → guards_hold t gs ≡ seeks sec secs → (w : List Item) → constants_standing t (sec ∷ secs) (us ++ w) ≡ targets (holding t cs) ++ constants_standing t secs w
 
 pub constants_hold : {part : Part} {us : List Item} {ds : List Declared} (t : List Bool) → (d : Declares part us ds) → ConstantsHold t part us (constants_in d)
 constants_hold t (nothing gs) = λ secs h w. refl
 constants_hold t (variables gs {us} {vs} {ws} {ds} {es} {kind} o v d) = λ secs h w.
-    ap (KeptAfter t secs) (append_assoc us (vs ++ ws) w)
-    ∙ ap (before_here t secs) (static_all ((vs ++ ws) ++ w) o)
-    ∙ silent_before t secs us (constants_from (kind_of kind) ((vs ++ ws) ++ w)) (static_silent o)
-    ∙ ap (λ (y : List Item). before_here t secs (constants_from (kind_of kind) y)) (append_assoc vs ws w)
+    ap (constants_standing t secs) (append_assoc us (vs ++ ws) w)
+    ∙ ap (standing t secs) (static_all ((vs ++ ws) ++ w) o)
+    ∙ silent t secs us (constants_from (kind_of kind) ((vs ++ ws) ++ w)) (static_silent o)
+    ∙ ap (λ (y : List Item). standing t secs (constants_from (kind_of kind) y)) (append_assoc vs ws w)
     ∙ vars_hold t kind secs h (ws ++ w) v
     ∙ ap (λ (ns : List ℕ). targets (holding t (of_kind kind ds)) ++ ns) (constants_hold t d secs h w)
-    ∙ both_held t (of_kind kind ds) (constants_in d) (KeptAfter t secs w)
+    ∙ both_held t (of_kind kind ds) (constants_in d) (constants_standing t secs w)
 constants_hold t (prototype q r s z gs {f} {us} {vs} {ws} {es} o c v d) = λ secs h w.
     let tail : List Item = at s signs.Close ∷ at z signs.Semicolon ∷ ws in
-    ap (KeptAfter t secs) (append_assoc us (at q f ∷ at r signs.Open ∷ (vs ++ tail)) w)
-    ∙ ap (before_here t secs) (extern_all (at q f ∷ at r signs.Open ∷ ((vs ++ tail) ++ w)) o)
-    ∙ silent_before t secs us (constants_from kinds.Variable (at q f ∷ at r signs.Open ∷ ((vs ++ tail) ++ w))) (extern_silent o)
-    ∙ ap (before_here t secs) (callable_all q r ((vs ++ tail) ++ w) c)
-    ∙ silent_before t secs (at q f ∷ at r signs.Open ∷ []) (constants_from kinds.Variable ((vs ++ tail) ++ w)) (callable_silent q r c)
-    ∙ ap (KeptAfter t secs) (append_assoc vs tail w)
-    ∙ ap (before_here t secs) (void_all (tail ++ w) v)
-    ∙ silent_before t secs vs (constants_from kinds.Variable (tail ++ w)) (void_silent v)
-    ∙ silent_before t secs (at s signs.Close ∷ at z signs.Semicolon ∷ []) (constants_from kinds.Variable (ws ++ w)) (refl, refl, refl, refl, (refl, refl, refl, refl, tt))
+    ap (constants_standing t secs) (append_assoc us (at q f ∷ at r signs.Open ∷ (vs ++ tail)) w)
+    ∙ ap (standing t secs) (extern_all (at q f ∷ at r signs.Open ∷ ((vs ++ tail) ++ w)) o)
+    ∙ silent t secs us (constants_from kinds.Variable (at q f ∷ at r signs.Open ∷ ((vs ++ tail) ++ w))) (extern_silent o)
+    ∙ ap (standing t secs) (callable_all q r ((vs ++ tail) ++ w) c)
+    ∙ silent t secs (at q f ∷ at r signs.Open ∷ []) (constants_from kinds.Variable ((vs ++ tail) ++ w)) (callable_silent q r c)
+    ∙ ap (constants_standing t secs) (append_assoc vs tail w)
+    ∙ ap (standing t secs) (void_all (tail ++ w) v)
+    ∙ silent t secs vs (constants_from kinds.Variable (tail ++ w)) (void_silent v)
+    ∙ silent t secs (at s signs.Close ∷ at z signs.Semicolon ∷ []) (constants_from kinds.Variable (ws ++ w)) (refl, refl, (refl, refl, tt))
     ∙ constants_hold t d secs h w
 constants_hold t (void_prototype p q r s z k gs {us} {vs} {ws} {es} o v d) = λ secs h w.
     let tail : List Item = at s signs.Close ∷ at z signs.Semicolon ∷ ws in
-    ap (KeptAfter t secs) (append_assoc us (at p signs.Void ∷ at q (signs.Function k) ∷ at r signs.Open ∷ (vs ++ tail)) w)
-    ∙ ap (before_here t secs) (outer_all (at p signs.Void ∷ at q (signs.Function k) ∷ at r signs.Open ∷ ((vs ++ tail) ++ w)) o)
-    ∙ silent_before t secs us (at p signs.Void ∷ at q (signs.Function k) ∷ at r signs.Open ∷ constants_from kinds.Variable ((vs ++ tail) ++ w)) (outer_silent o)
-    ∙ silent_before t secs (at p signs.Void ∷ at q (signs.Function k) ∷ at r signs.Open ∷ []) (constants_from kinds.Variable ((vs ++ tail) ++ w)) (refl, refl, refl, refl, (refl, refl, refl, refl, (refl, refl, refl, refl, tt)))
-    ∙ ap (KeptAfter t secs) (append_assoc vs tail w)
-    ∙ ap (before_here t secs) (void_all (tail ++ w) v)
-    ∙ silent_before t secs vs (constants_from kinds.Variable (tail ++ w)) (void_silent v)
-    ∙ silent_before t secs (at s signs.Close ∷ at z signs.Semicolon ∷ []) (constants_from kinds.Variable (ws ++ w)) (refl, refl, refl, refl, (refl, refl, refl, refl, tt))
+    ap (constants_standing t secs) (append_assoc us (at p signs.Void ∷ at q (signs.Function k) ∷ at r signs.Open ∷ (vs ++ tail)) w)
+    ∙ ap (standing t secs) (outer_all (at p signs.Void ∷ at q (signs.Function k) ∷ at r signs.Open ∷ ((vs ++ tail) ++ w)) o)
+    ∙ silent t secs us (at p signs.Void ∷ at q (signs.Function k) ∷ at r signs.Open ∷ constants_from kinds.Variable ((vs ++ tail) ++ w)) (outer_silent o)
+    ∙ silent t secs (at p signs.Void ∷ at q (signs.Function k) ∷ at r signs.Open ∷ []) (constants_from kinds.Variable ((vs ++ tail) ++ w)) (refl, refl, (refl, refl, (refl, refl, tt)))
+    ∙ ap (constants_standing t secs) (append_assoc vs tail w)
+    ∙ ap (standing t secs) (void_all (tail ++ w) v)
+    ∙ silent t secs vs (constants_from kinds.Variable (tail ++ w)) (void_silent v)
+    ∙ silent t secs (at s signs.Close ∷ at z signs.Semicolon ∷ []) (constants_from kinds.Variable (ws ++ w)) (refl, refl, (refl, refl, tt))
     ∙ constants_hold t d secs h w
 constants_hold t (definition gs {us} {ws} {es} {x} {n} o d) = λ secs h w.
-    ap (KeptAfter t secs) (append_assoc us ws w)
-    ∙ ap (before_here t secs) (definition_all (ws ++ w) o)
-    ∙ definition_before t secs (constants_from kinds.Variable (ws ++ w)) o
+    ap (constants_standing t secs) (append_assoc us ws w)
+    ∙ ap (standing t secs) (definition_all (ws ++ w) o)
+    ∙ definition_first t secs (constants_from kinds.Variable (ws ++ w)) o
     ∙ ap (λ (ns : List ℕ). cond (all_kept secs) (x ∷ []) [] ++ ns) (constants_hold t d secs h w)
-    ∙ one_held t x n gs (constants_in d) secs (KeptAfter t secs w) h
+    ∙ one_held t x n gs (constants_in d) secs (constants_standing t secs w) h
 constants_hold t (section p n gs {us} {vs} {ws} a b d) = λ secs h w.
     let inner = next_group Seeking (truth t n) in
     let is : (us ++ (vs ++ ws)) ++ w ≡ us ++ (vs ++ (ws ++ w)) = simp append_assoc in
-    ap (KeptAfter t (inner ∷ secs)) is
+    ap (constants_standing t (inner ∷ secs)) is
     ∙ constants_hold t a (inner ∷ secs) (in_true t gs n Seeking secs h) (vs ++ (ws ++ w))
     ∙ ap (λ (ns : List ℕ). targets (holding t (constants_in a)) ++ ns) (constants_hold t b inner secs (in_false t gs n Seeking secs h) (ws ++ w)
-    ∙ ap (λ (ns : List ℕ). targets (holding t (constants_in b)) ++ ns) (constants_hold t d secs h w) ∙ both_held t (constants_in b) (constants_in d) (KeptAfter t secs w))
-    ∙ both_held t (constants_in a) (constants_in b ++ constants_in d) (KeptAfter t secs w)
+    ∙ ap (λ (ns : List ℕ). targets (holding t (constants_in b)) ++ ns) (constants_hold t d secs h w) ∙ both_held t (constants_in b) (constants_in d) (constants_standing t secs w))
+    ∙ both_held t (constants_in a) (constants_in b ++ constants_in d) (constants_standing t secs w)
 constants_hold t (last_var gs d o) = tt
 constants_hold t (next_var p gs d v) = tt
 constants_hold t (end_part p gs) = λ sec secs h w. refl
 constants_hold t (else_part p q gs {us} d) = λ sec secs h w.
-    ap (KeptAfter t (next_group sec true ∷ secs)) (append_assoc us (at q signs.GroupEnd ∷ []) w)
+    ap (constants_standing t (next_group sec true ∷ secs)) (append_assoc us (at q signs.GroupEnd ∷ []) w)
     ∙ constants_hold t d (next_group sec true ∷ secs) (h ∙ else_matches sec secs) (at q signs.GroupEnd ∷ w)
 constants_hold t (elif_part p n gs {us} {vs} a b) = λ sec secs h w.
     let inner = next_group sec (truth t n) in
-    ap (KeptAfter t (inner ∷ secs)) (append_assoc us vs w)
+    ap (constants_standing t (inner ∷ secs)) (append_assoc us vs w)
     ∙ constants_hold t a (inner ∷ secs) (in_true t gs n sec secs h) (vs ++ w)
     ∙ ap (λ (ns : List ℕ). targets (holding t (constants_in a)) ++ ns) (constants_hold t b inner secs (in_false t gs n sec secs h) w)
-    ∙ both_held t (constants_in a) (constants_in b) (KeptAfter t secs w)
+    ∙ both_held t (constants_in a) (constants_in b) (constants_standing t secs w)

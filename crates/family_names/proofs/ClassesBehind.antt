@@ -1,4 +1,4 @@
--- The names of constants and variables, and the features that are used as values, behind one item more.
+-- The names of each class, and the features that are used as values, behind one item more.
 use Rattle.std.proofs.Common.{◌≡◌, ℕ, Bool, true, false, cond, not, ◌&&◌, nat_eq, List, [], ◌∷◌, ◌++◌, Option, Some, None, refl, sym, ap, ◌∙◌, append_assoc, append-nil}
 use Rattle.std.specs.Prelude.{◌||◌, if◌then◌else◌}
 use Rattle.std.specs.List.{list_any, filter}
@@ -6,6 +6,8 @@ use Rattle.std.proofs.lemmas.Bool.{eq-eqb}
 use Rattle.std.proofs.lemmas.List.Elements.{filter-append}
 use Rattle.std.proofs.lemmas.List.Folds.{list_any-append}
 use Rattle.fam_outer.specs.declared.faults.Place.{Place}
+use Rattle.c_grammar.specs.declared.constants.NameClass.{NameClass}
+use Rattle.c_grammar.specs.declared.constants.NameClass.TheVariants as classes
 use Rattle.c_grammar.specs.declared.constants.NameKind.{NameKind}
 use Rattle.c_grammar.specs.declared.constants.NameKind.TheVariants as kinds
 use Rattle.c_grammar.specs.declared.items.Item.{Item}
@@ -14,90 +16,89 @@ use Rattle.c_grammar.specs.declared.items.Sign.TheVariants as signs
 use Rattle.c_grammar.specs.Constants.{is_name, is_constant, kind_behind, kind_after, last_from}
 use Rattle.c_grammar.specs.Functions.{has_sign}
 use Rattle.c_grammar.specs.Grammar.{at}
-use Rattle.c_grammar.specs.Kinds.{name_as, kinds_from, declared_kinds, is_first_constant, is_declared_constant}
+use Rattle.c_grammar.specs.Classes.{class_of, is_class, name_as, classes_from, declared_classes, first_class, class_in}
 use Rattle.c_grammar.specs.Locals.{is_declaring, declarations_from}
 use Rattle.family_names.specs.declared.values.Used.{Used}
-use Rattle.family_names.specs.Names.{NameContext, is_main, has_main, name_of, names_of, declared_by, constants_of, variables_of, is_value, behind_main, values_of, is_among, with_number, each_once, is_used_behind}
-use Rattle.family_names.specs.Judging.{AreUsed, with_kind}
+use Rattle.family_names.specs.Names.{NameContext, is_main, has_main, name_of, names_of, declared_by, names_of_class, class_behind, is_value, behind_main, values_of, is_among, with_number, each_once, is_used_behind}
+use Rattle.family_names.specs.Judging.{AreUsed, with_new}
 use Rattle.family_names.proofs.Declared.{names_append, or_assoc, or_false, AreStill, more_named, once_append, among_once, and_false, or_left, or_right}
 
--- ---- the kinds of declared names
+-- ---- the classes of declared names
 
-kinds_on : (main : Bool) (last : Option Item) (kind : NameKind) (before xs : List Item) → kinds_from main (has_sign is_declaring last) kind (before ++ xs)
-    ≡ kinds_from main (has_sign is_declaring last) kind before ++ kinds_from (main || has_main before) (has_sign is_declaring (last_from last before)) (kind_after kind before) xs
-kinds_on main last kind [] xs = ap (λ (b : Bool). kinds_from b (has_sign is_declaring last) kind xs) (sym (or_false main))
-kinds_on main last kind (y ∷ ys) xs =
+classes_on : (main : Bool) (last : Option Item) (kind : NameKind) (before xs : List Item) → classes_from main (has_sign is_declaring last) kind (before ++ xs)
+    ≡ classes_from main (has_sign is_declaring last) kind before ++ classes_from (main || has_main before) (has_sign is_declaring (last_from last before)) (kind_after kind before) xs
+classes_on main last kind [] xs = ap (λ (b : Bool). classes_from b (has_sign is_declaring last) kind xs) (sym (or_false main))
+classes_on main last kind (y ∷ ys) xs =
     let m : Bool = main || is_main y.sign in
     let k : NameKind = kind_behind kind y.sign in
     let d : Bool = has_sign is_declaring (last_from (Some y) ys) in
-    let this : List (ℕ × Bool) = if main && not (has_sign is_declaring last) then [] else name_as (is_constant kind) y.sign in
-    let front : List (ℕ × Bool) = kinds_from m (is_declaring y.sign) k ys in
-    ap (λ (ds : List (ℕ × Bool)). this ++ ds) (kinds_on m (Some y) k ys xs ∙ ap (λ (b : Bool). front ++ kinds_from b d (kind_after k ys) xs) (or_assoc main (is_main y.sign) (has_main ys)))
-    ∙ sym (append_assoc this front (kinds_from (main || (is_main y.sign || has_main ys)) d (kind_after k ys) xs))
+    let this : List (ℕ × NameClass) = if main && not (has_sign is_declaring last) then [] else name_as (class_of main (is_constant kind)) y.sign in
+    let front : List (ℕ × NameClass) = classes_from m (is_declaring y.sign) k ys in
+    ap (λ (ds : List (ℕ × NameClass)). this ++ ds) (classes_on m (Some y) k ys xs ∙ ap (λ (b : Bool). front ++ classes_from b d (kind_after k ys) xs) (or_assoc main (is_main y.sign) (has_main ys)))
+    ∙ sym (append_assoc this front (classes_from (main || (is_main y.sign || has_main ys)) d (kind_after k ys) xs))
 
--- the kind of an item more, unless it is used
-kinds_more : (before : List Item) (x : Item) → declared_kinds (before ++ x ∷ []) ≡ declared_kinds before ++ (if is_used_behind before then [] else name_as (is_constant (kind_after kinds.Variable before)) x.sign)
-kinds_more before x =
-    kinds_on false None kinds.Variable before (x ∷ [])
-    ∙ ap (λ (ds : List (ℕ × Bool)). declared_kinds before ++ ds) (append-nil (if is_used_behind before then [] else name_as (is_constant (kind_after kinds.Variable before)) x.sign))
+-- the class of an item more, unless it is used
+classes_more : (before : List Item) (x : Item) → declared_classes (before ++ x ∷ []) ≡ declared_classes before ++ (if is_used_behind before then [] else name_as (class_behind before) x.sign)
+classes_more before x =
+    classes_on false None kinds.Variable before (x ∷ [])
+    ∙ ap (λ (ds : List (ℕ × NameClass)). declared_classes before ++ ds) (append-nil (if is_used_behind before then [] else name_as (class_behind before) x.sign))
 
 -- one of these declarations has the name
-abbrev has_kind : ℕ → List (ℕ × Bool) → Bool
-has_kind x ds = list_any (λ d. nat_eq x d.0) ds
+abbrev has_class : ℕ → List (ℕ × NameClass) → Bool
+has_class x ds = list_any (λ d. nat_eq x d.0) ds
 
-kind_of_name : (x : ℕ) (constant : Bool) (s : Sign) → has_kind x (name_as constant s) ≡ is_among x (name_of s)
-kind_of_name x constant (signs.Name n) = refl
-kind_of_name x constant _ = refl
+class_of_name : (x : ℕ) (class : NameClass) (s : Sign) → has_class x (name_as class s) ≡ is_among x (name_of s)
+class_of_name x class (signs.Name n) = refl
+class_of_name x class _ = refl
 
 no_name : (s : Sign) (p : Place) (rest : List Item) → names_of (if is_name s then rest else at p s ∷ rest) ≡ names_of rest
 no_name (signs.Name n) p rest = refl
 no_name _ p rest = refl
 
-has_name : (x : ℕ) (main declaring : Bool) (kind : NameKind) (items : List Item) → has_kind x (kinds_from main declaring kind items) ≡ is_among x (names_of (declarations_from main declaring items))
+has_name : (x : ℕ) (main declaring : Bool) (kind : NameKind) (items : List Item) → has_class x (classes_from main declaring kind items) ≡ is_among x (names_of (declarations_from main declaring items))
 has_name x main declaring kind [] = refl
 has_name x main declaring kind (y ∷ ys) =
     let m = main || is_main y.sign in
     let d = is_declaring y.sign in
     let k = kind_behind kind y.sign in
-    elim (main && not declaring) as (λ b. has_kind x ((if b then [] else name_as (is_constant kind) y.sign) ++ kinds_from (main || is_main y.sign) (is_declaring y.sign) (kind_behind kind y.sign) ys)
+    elim (main && not declaring) as (λ b. has_class x ((if b then [] else name_as (class_of main (is_constant kind)) y.sign) ++ classes_from (main || is_main y.sign) (is_declaring y.sign) (kind_behind kind y.sign) ys)
     ≡ is_among x (names_of (if b && is_name y.sign then declarations_from (main || is_main y.sign) (is_declaring y.sign) ys else y ∷ declarations_from (main || is_main y.sign) (is_declaring y.sign) ys))) [
       | true ↦ has_name x m d k ys ∙ ap (is_among x) (sym (no_name y.sign y.place (declarations_from m d ys)))
-      | false ↦ list_any-append (λ (e : ℕ × Bool). nat_eq x e.0) (name_as (is_constant kind) y.sign) (kinds_from m d k ys)
-          ∙ ap (λ (b : Bool). b || has_kind x (kinds_from m d k ys)) (kind_of_name x (is_constant kind) y.sign)
+      | false ↦ list_any-append (λ (e : ℕ × NameClass). nat_eq x e.0) (name_as (class_of main (is_constant kind)) y.sign) (classes_from m d k ys)
+          ∙ ap (λ (b : Bool). b || has_class x (classes_from m d k ys)) (class_of_name x (class_of main (is_constant kind)) y.sign)
           ∙ ap (λ (b : Bool). is_among x (name_of y.sign) || b) (has_name x m d k ys)
           ∙ sym (list_any-append (nat_eq x) (name_of y.sign) (names_of (declarations_from m d ys)))
     ]
 
-first_stays : (x : ℕ) (ds es : List (ℕ × Bool)) → has_kind x ds ≡ true → is_first_constant (ds ++ es) x ≡ is_first_constant ds x
+first_stays : (x : ℕ) (ds es : List (ℕ × NameClass)) → has_class x ds ≡ true → first_class (ds ++ es) x ≡ first_class ds x
 first_stays x [] es h = absurd cc
-first_stays x (d ∷ ds) es h = elim (nat_eq x d.0) as (λ b. (b || has_kind x ds) ≡ true → (if b then d.1 else is_first_constant (ds ++ es) x) ≡ (if b then d.1 else is_first_constant ds x)) [
+first_stays x (d ∷ ds) es h = elim (nat_eq x d.0) as (λ b. (b || has_class x ds) ≡ true → (if b then d.1 else first_class (ds ++ es) x) ≡ (if b then d.1 else first_class ds x)) [
   | true ↦ λ _. refl
   | false ↦ λ g. first_stays x ds es g
 ] h
 
-first_behind : (x : ℕ) (ds es : List (ℕ × Bool)) → has_kind x ds ≡ false → is_first_constant (ds ++ es) x ≡ is_first_constant es x
+first_behind : (x : ℕ) (ds es : List (ℕ × NameClass)) → has_class x ds ≡ false → first_class (ds ++ es) x ≡ first_class es x
 first_behind x [] es h = refl
-first_behind x (d ∷ ds) es h = elim (nat_eq x d.0) as (λ b. (b || has_kind x ds) ≡ false → (if b then d.1 else is_first_constant (ds ++ es) x) ≡ is_first_constant es x) [
+first_behind x (d ∷ ds) es h = elim (nat_eq x d.0) as (λ b. (b || has_class x ds) ≡ false → (if b then d.1 else first_class (ds ++ es) x) ≡ first_class es x) [
   | true ↦ λ g. absurd cc
   | false ↦ λ g. first_behind x ds es g
 ] h
 
--- the kind of a name that is declared stays
-kind_stays : (before : List Item) (x : Item) (y : ℕ) → is_among y (declared_by before) ≡ true → is_declared_constant (before ++ x ∷ []) y ≡ is_declared_constant before y
-kind_stays before x y h =
-    ap (λ (ds : List (ℕ × Bool)). is_first_constant ds y) (kinds_more before x)
-    ∙ first_stays y (declared_kinds before) (if is_used_behind before then [] else name_as (is_constant (kind_after kinds.Variable before)) x.sign) (has_name y false false kinds.Variable before ∙ h)
+-- the class of a name that is declared stays
+class_stays : (before : List Item) (x : Item) (y : ℕ) → is_among y (declared_by before) ≡ true → class_in (before ++ x ∷ []) y ≡ class_in before y
+class_stays before x y h =
+    ap (λ (ds : List (ℕ × NameClass)). first_class ds y) (classes_more before x)
+    ∙ first_stays y (declared_classes before) (if is_used_behind before then [] else name_as (class_behind before) x.sign) (has_name y false false kinds.Variable before ∙ h)
 
--- the kind of a new name
-kind_is : (before : List Item) (p : Place) (n : ℕ) → is_used_behind before ≡ false → is_among n (declared_by before) ≡ false
-    → is_declared_constant (before ++ at p (signs.Name n) ∷ []) n ≡ is_constant (kind_after kinds.Variable before)
-kind_is before p n u h =
-    let constant = is_constant (kind_after kinds.Variable before) in
-    ap (λ (ds : List (ℕ × Bool)). is_first_constant ds n) (kinds_more before (at p (signs.Name n)) ∙ ap (λ (b : Bool). declared_kinds before ++ (if b then [] else (n, constant) ∷ [])) u)
-    ∙ first_behind n (declared_kinds before) ((n, constant) ∷ []) (has_name n false false kinds.Variable before ∙ h)
-    ∙ ap (λ (b : Bool). if b then constant else false) (eq-eqb n n refl)
+-- the class of a new name
+class_is : (before : List Item) (p : Place) (n : ℕ) → is_used_behind before ≡ false → is_among n (declared_by before) ≡ false → class_in (before ++ at p (signs.Name n) ∷ []) n ≡ class_behind before
+class_is before p n u h =
+    let class : NameClass = class_behind before in
+    ap (λ (ds : List (ℕ × NameClass)). first_class ds n) (classes_more before (at p (signs.Name n)) ∙ ap (λ (b : Bool). declared_classes before ++ (if b then [] else (n, class) ∷ [])) u)
+    ∙ first_behind n (declared_classes before) ((n, class) ∷ []) (has_name n false false kinds.Variable before ∙ h)
+    ∙ ap (λ (b : Bool). if b then class else classes.Variable) (eq-eqb n n refl)
 
--- ---- the names of a kind
+-- ---- the names of a class
 
 pub filter_same : (p q : ℕ → Bool) (xs : List ℕ) → ((y : ℕ) → is_among y xs ≡ true → p y ≡ q y) → filter p xs ≡ filter q xs
 filter_same p q [] h = refl
@@ -105,54 +106,37 @@ filter_same p q (x ∷ xs) h =
     ap (λ (b : Bool). cond b (x ∷ filter p xs) (filter p xs)) (h x (or_left (nat_eq x x) (is_among x xs) (eq-eqb x x refl)))
     ∙ ap (λ (ys : List ℕ). cond (q x) (x ∷ ys) ys) (filter_same p q xs (λ y m. h y (or_right (nat_eq y x) (is_among y xs) m)))
 
--- the names, each once, of which this is so of whether the first declaration is a constant's
-abbrev pub of_kind : (Bool → Bool) → List Item → List ℕ
-of_kind f items = filter (λ y. f (is_declared_constant items y)) (each_once [] (declared_by items))
-
 -- those that were declared before
-kept_kind : (f : Bool → Bool) (before : List Item) (x : Item) → filter (λ y. f (is_declared_constant (before ++ x ∷ []) y)) (each_once [] (declared_by before)) ≡ of_kind f before
-kept_kind f before x =
-    filter_same (λ y. f (is_declared_constant (before ++ x ∷ []) y)) (λ y. f (is_declared_constant before y)) (each_once [] (declared_by before))
-    (λ y m. ap f (kind_stays before x y (sym (among_once y [] (declared_by before)) ∙ m)))
+kept_class : (class : NameClass) (before : List Item) (x : Item) → filter (λ y. is_class class (class_in (before ++ x ∷ []) y)) (each_once [] (declared_by before)) ≡ names_of_class class before
+kept_class class before x =
+    filter_same (λ y. is_class class (class_in (before ++ x ∷ []) y)) (λ y. is_class class (class_in before y)) (each_once [] (declared_by before))
+    (λ y m. ap (is_class class) (class_stays before x y (sym (among_once y [] (declared_by before)) ∙ m)))
 
-still_kind : (f : Bool → Bool) (before : List Item) (x : Item) → AreStill before x → of_kind f (before ++ x ∷ []) ≡ of_kind f before
-still_kind f before x s =
-    ap (λ (ns : List ℕ). filter (λ y. f (is_declared_constant (before ++ x ∷ []) y)) (each_once [] ns)) s.any ∙ kept_kind f before x
+pub still_class : (class : NameClass) (before : List Item) (x : Item) → AreStill before x → names_of_class class (before ++ x ∷ []) ≡ names_of_class class before
+still_class class before x s =
+    ap (λ (ns : List ℕ). filter (λ y. is_class class (class_in (before ++ x ∷ []) y)) (each_once [] ns)) s.any ∙ kept_class class before x
 
 with_one : (b : Bool) (others : List ℕ) (n : ℕ) → others ++ cond b (n ∷ []) [] ≡ (if b && true then others ++ n ∷ [] else others)
 with_one true others n = refl
 with_one false others n = append-nil others
 
-one_kind : (f : Bool → Bool) (before : List Item) (p : Place) (n : ℕ) → is_used_behind before ≡ false
-    → of_kind f (before ++ at p (signs.Name n) ∷ []) ≡ with_kind (f (is_constant (kind_after kinds.Variable before))) (each_once [] (declared_by before)) (of_kind f before) n
-one_kind f before p n u =
+-- one more, where its name is new and of the class
+pub more_class : (class : NameClass) (before : List Item) (p : Place) (n : ℕ) → is_used_behind before ≡ false
+    → names_of_class class (before ++ at p (signs.Name n) ∷ []) ≡ with_new (is_class class (class_behind before)) (each_once [] (declared_by before)) (names_of_class class before) n
+more_class class before p n u =
     let after : List Item = before ++ at p (signs.Name n) ∷ [] in
     let names : List ℕ = each_once [] (declared_by before) in
-    let test : ℕ → Bool = λ y. f (is_declared_constant after y) in
-    let b : Bool = f (is_constant (kind_after kinds.Variable before)) in
+    let test : ℕ → Bool = λ y. is_class class (class_in after y) in
+    let b : Bool = is_class class (class_behind before) in
     ap (λ (ns : List ℕ). filter test (each_once [] ns)) ((more_named before p n u).any) ∙ ap (filter test) (once_append [] (declared_by before) (n ∷ []))
-    ∙ elim (is_among n names) as (λ t. is_among n names ≡ t → filter test (if t then names else names ++ n ∷ []) ≡ (if b && not t then of_kind f before ++ n ∷ [] else of_kind f before)) [
-      | true ↦ λ _. kept_kind f before (at p (signs.Name n)) ∙ sym (ap (λ (c : Bool). if c then of_kind f before ++ n ∷ [] else of_kind f before) (and_false b))
+    ∙ elim (is_among n names) as (λ t. is_among n names ≡ t → filter test (if t then names else names ++ n ∷ []) ≡ (if b && not t then names_of_class class before ++ n ∷ [] else names_of_class class before)) [
+      | true ↦ λ _. kept_class class before (at p (signs.Name n)) ∙ sym (ap (λ (c : Bool). if c then names_of_class class before ++ n ∷ [] else names_of_class class before) (and_false b))
       | false ↦ λ e.
           filter-append test names (n ∷ [])
-          ∙ ap (λ (ns : List ℕ). ns ++ cond (test n) (n ∷ []) []) (kept_kind f before (at p (signs.Name n)))
-          ∙ ap (λ (c : Bool). of_kind f before ++ cond (f c) (n ∷ []) []) (kind_is before p n u (sym (among_once n [] (declared_by before)) ∙ e))
-          ∙ with_one b (of_kind f before) n
+          ∙ ap (λ (ns : List ℕ). ns ++ cond (test n) (n ∷ []) []) (kept_class class before (at p (signs.Name n)))
+          ∙ ap (λ (c : NameClass). names_of_class class before ++ cond (is_class class c) (n ∷ []) []) (class_is before p n u (sym (among_once n [] (declared_by before)) ∙ e))
+          ∙ with_one b (names_of_class class before) n
     ] refl
-
-pub still_constants : (before : List Item) (x : Item) → AreStill before x → constants_of (before ++ x ∷ []) ≡ constants_of before
-still_constants before x s = still_kind (λ b. b) before x s
-
-pub still_variables : (before : List Item) (x : Item) → AreStill before x → variables_of (before ++ x ∷ []) ≡ variables_of before
-still_variables before x s = still_kind not before x s
-
-pub more_constants : (before : List Item) (p : Place) (n : ℕ) → is_used_behind before ≡ false
-    → constants_of (before ++ at p (signs.Name n) ∷ []) ≡ with_kind (is_constant (kind_after kinds.Variable before)) (each_once [] (declared_by before)) (constants_of before) n
-more_constants before p n u = one_kind (λ b. b) before p n u
-
-pub more_variables : (before : List Item) (p : Place) (n : ℕ) → is_used_behind before ≡ false
-    → variables_of (before ++ at p (signs.Name n) ∷ []) ≡ with_kind (not (is_constant (kind_after kinds.Variable before))) (each_once [] (declared_by before)) (variables_of before) n
-more_variables before p n u = one_kind not before p n u
 
 -- ---- features that are used as values
 

@@ -1,6 +1,6 @@
 use Rattle.std.proofs.Common.{◌∙◌, take}
 use Rattle.c_parser.proofs.Ordering.{item_on}
-use Rattle.c_parser.proofs.order.first_kinds.Goals as goal
+use Rattle.c_parser.proofs.order.first_classes.Goals as goal
 
 pub loop-item-preserved : goal.loop-item-preserved
 loop-item-preserved c =

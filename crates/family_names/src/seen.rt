@@ -1,0 +1,106 @@
+//! What is known of names behind some items.
+#![tactic(auto)]
+
+ghost use Rattle.std.specs.Prelude.{◌≡◌, List, [], OnOk};
+ghost use Rattle.c_grammar.specs.declared.items.Item as items;
+ghost use Rattle.c_grammar.specs.Changes as changes;
+ghost use Rattle.c_grammar.specs.Scoped.{IsSound};
+ghost use Rattle.family_names.specs.Names.{is_among, is_used_behind};
+ghost use Rattle.family_names.specs.Judging as judging;
+
+use crate::declarations::{Declaration, add_declaration};
+use crate::functions::Functions;
+use crate::groups::Groups;
+use c_grammar::{NameClass, Scoped, Track};
+use fam_outer::NoMemory;
+use std::alloc::Global;
+
+/// What is known behind some items: the groups that stand there, whether `main` is among the items, the names that they
+/// declare, each once, all of them and those of each class, their declarations whose block is open, and those of functions.
+#[derive(Drop)]
+pub(crate) struct Seen {
+    pub(crate) groups: Groups,
+    pub(crate) in_main: bool,
+    pub(crate) names: Vec<u32>,
+    pub(crate) variables: Vec<u32>,
+    pub(crate) locals: Vec<u32>,
+    pub(crate) constants: Vec<u32>,
+    pub(crate) declarations: Scoped<Declaration>,
+    pub(crate) functions: Functions,
+}
+
+/// Whether a number is among these.
+pub(crate) fn contains(numbers: &[u32], number: u32) -> bool
+    ensures { result ≡ is_among number numbers.now }
+{
+    for other in numbers {
+        if number == *other {
+            return true;
+        }
+    }
+    false
+}
+
+impl Seen {
+    /// Nothing, before the first item. It takes no memory.
+    pub(crate) fn new(alloc: Global) -> Seen
+        ensures { judging.IsSeen [] result }
+    {
+        Seen {
+            groups: Groups::new(alloc),
+            in_main: false,
+            names: Vec::new(alloc),
+            variables: Vec::new(alloc),
+            locals: Vec::new(alloc),
+            constants: Vec::new(alloc),
+            declarations: Scoped::new(alloc),
+            functions: Functions::new(alloc),
+        }
+    }
+
+    /// Whether a name that comes next is used: it stands in `main`, and not where a name is declared.
+    #[tactic(auto, using(crate::proofs::Walking::used_next))]
+    pub(crate) fn uses_next(&self, track: Track) -> bool
+        ensures { (before : List items.Item) → judging.IsSeen before self.now
+            → changes.IsTrack before track
+            → result ≡ is_used_behind before }
+    {
+        self.in_main && !track.declares()
+    }
+
+    /// The names of a class.
+    pub(crate) fn names_in(&self, class: NameClass) -> &[u32]
+        ensures { result.now ≡ judging.names_in class self.now }
+    {
+        match class {
+            NameClass::Variable => self.variables.as_slice(),
+            NameClass::Local => self.locals.as_slice(),
+            NameClass::Constant => self.constants.as_slice(),
+        }
+    }
+
+    /// Adds a name of this class, if it is new.
+    fn add_name(&mut self, class: NameClass, name: u32) -> Result<(), NoMemory>
+        ensures named { OnOk result (judging.HasName self.old class name self.new) }
+        ensures declarations { OnOk result (self.new.declarations ≡ self.old.declarations) }
+    {
+        if contains(&self.names, name) {
+            return Ok(());
+        }
+        match class {
+            NameClass::Variable => self.variables.push(name)?,
+            NameClass::Local => self.locals.push(name)?,
+            NameClass::Constant => self.constants.push(name)?,
+        }
+        self.names.push(name)?;
+        Ok(())
+    }
+
+    /// Adds a declaration in the groups that stand here, of this class if its name is new.
+    pub(crate) fn add(&mut self, alloc: Global, class: NameClass, name: u32) -> Result<(), NoMemory>
+        ensures { IsSound self.old.declarations → OnOk result (judging.Adds self.old class name self.new) }
+    {
+        self.add_name(class, name)?;
+        add_declaration(alloc, &mut self.declarations, &self.groups, name)
+    }
+}
