@@ -1,6 +1,7 @@
 int level;
 int main(void)
 {
-    for (level = 0; level < 10; level++)
-        ;
+    do
+        level++;
+    while (level < 10);
 }

@@ -1,8 +1,8 @@
 """Programs whose outcome was worked out by hand from ISO/IEC 9899:2011, and outcomes of which it is known whether they are the same.
 
 The operators are those of 6.5.3.3 and 6.5.5 to 6.5.14, what does not fit `int` is 6.5, paragraph 5, truncation and the sign of a remainder
-6.5.5, paragraph 6, and what `&&` and `||` leave out 6.5.13 and 6.5.14, paragraph 4. Macros are 6.10.3: the tokens of `#define` stand in the
-place of its name, and those of `-DNAME=VALUE` in the place of a feature's.
+6.5.5, paragraph 6, and what `&&` and `||` leave out 6.5.13 and 6.5.14, paragraph 4. The order of the parts of a `for` is 6.8.5.3. Macros
+are 6.10.3: the tokens of `#define` stand in the place of its name, and those of `-DNAME=VALUE` in the place of a feature's.
 """
 from __future__ import annotations
 
@@ -91,6 +91,24 @@ PROGRAMS = [
     case("inputs that are left", "int x;", "x = input();", "ended x=1", inputs=(1, 2)),
     case("no statement", "int x = 1;", ";", "ended x=1"),
     case("return", "int x;", "x = 4;\nreturn 3;", "ended x=4"),
+    case("a for", "int i, x;", "for (i = 0; i < 3; i++)\nx += i;", "ended i=3 x=3"),
+    case("a for that does nothing", "int i, x;", "for (i = 5; i < 3; i++)\nx = 1;", "ended i=5 x=0"),
+    case("a for without a start and a step", "int x = 7;", "for (; x > 2;)\nx -= 2;", "ended x=1"),
+    case("a for without a test", "int x;", "for (x = 5;; x++)\nassert(x < 8);", "4 assertion"),
+    case("a for without parts", "int x, y;", "for (;;) {\nx = input();\ny += x;\n}", "waiting x=4 y=7", inputs=(3, 4)),
+    case("a for by inputs", "int x, y;", "for (x = input(); x; x = input())\ny += x;", "ended x=0 y=7", inputs=(3, 4, 0)),
+    case("a for that waits", "int x, y;", "for (x = input(); x; x = input())\ny += x;", "waiting x=4 y=7", inputs=(3, 4)),
+    case("a for by short forms", "int i = 3, n;", "for (i *= 4; i; i /= 2)\nn++;", "ended i=0 n=4"),
+    case("the start of a for", "int x, y;", "for (x =\n3 / y; x < 9; x++)\ny++;", "3 zero-divisor"),
+    case("the start of a for, once", "int x, y = 2;", "for (x = 6 / y;\nx < 5;\nx++)\ny = 0;", "ended x=5 y=0"),
+    case("the test of a for", "int x = 9, y;", "for (x = 2;\n7 / x;\nx--)\ny = x;", "4 zero-divisor"),
+    case("the step of a for", "int x, y;", "for (x = 2147483646;\nx > 0;\nx++)\ny++;", "5 overflow", "ended x=-2147483648 y=2"),
+    case("the step behind the body", "int x = 2, y;", "for (;\nx;\ny = 6 / x)\nx--;", "5 zero-divisor"),
+    case("the body before the step", "int x = 2, y;", "for (;\nx;\nx = 0)\ny = 6 / (x - 2);", "6 zero-divisor"),
+    case("the step that the body makes", "int i, x;", "for (i = 0; i < 4; i += x)\nx++;", "ended i=6 x=3"),
+    case("a for in a for", "int i, j, n;", "for (i = 0; i < 3; i++)\nfor (j = i; j < 3; ++j)\nn++;", "ended i=3 j=3 n=6"),
+    case("a for in an if", "int x, y = 5, z;", "if (x)\nfor (y = 0; y < 3; y++)\nz++;\nelse\nz = 9;", "ended x=0 y=5 z=9"),
+    case("an if in a for", "int x, y, z;", "for (; x < 3; x++) if (x) y++; else z++;", "ended x=3 y=2 z=1"),
     case("constants", "int x; const int A = 3; int const B = -2;", "x = A - B;", "ended x=5 A=3 B=-2"),
     case("constants that are counted", "int x; enum { A, B, C = 0x10, D, E = -3, F, };", "x = D + F;", "ended x=15 A=0 B=1 C=16 D=17 E=-3 F=-2"),
     case("words of the type", "int32_t a = 1; signed b = 2; int signed c; static signed int d;", "c = a + b;\nd = c;", "ended a=1 b=2 c=3 d=3"),
@@ -195,7 +213,17 @@ FAMILIES = [
 
 CASES = PROGRAMS + FAMILIES
 
-TWO_LINES = "int x, y;\nint main(void) {\n    x = 1; y = 1 / x;\n    if (x / 2 ==\n        y) x = 9 / y; // a note; and {\n    assert(x == 1);\n}\n"
+COMPARED = """int x, y;
+int main(void) {
+    x = 1; y = 1 / x;
+    if (x / 2 ==
+        y) x = 9 / y; // a note; and {
+    assert(x == 1);
+    for (x = 3 / y; x < 3 / y; x += 3 / y) y = 3 / x;
+    if (x) for (x = 3 / y; /* a note; and ) */ x; x = 3 / y) ;
+    for (;; x = (3) / y) y = (3 / x);
+}
+"""
 REPORT = "t.c:{}:{}: runtime error: {} cannot be represented in type 'int'\nSUMMARY: ..\n"
 BY_ZERO = "t.c:{}:{}: runtime error: division by zero\nSUMMARY: ..\n"
 FAILED = "t: ./t.c:{}: int main(void): Assertion `x == 1' failed.\n"
@@ -230,6 +258,21 @@ OUTCOMES = [
     ("stopped 5:12 overflow\n", "", REPORT.format(5, 18, "signed integer overflow: 2147483647 + 1"), True),
     ("stopped 5:12 overflow\n", "", REPORT.format(5, 18, "negation of -2147483648"), True),
     ("stopped 6:5 zero-divisor\n", "", BY_ZERO.format(5, 18), False),
+    ("stopped 7:10 zero-divisor\n", "", BY_ZERO.format(7, 16), True),
+    ("stopped 7:10 zero-divisor\n", "", BY_ZERO.format(7, 27), False),
+    ("stopped 7:21 zero-divisor\n", "", BY_ZERO.format(7, 27), True),
+    ("stopped 7:21 zero-divisor\n", "", BY_ZERO.format(7, 16), False),
+    ("stopped 7:21 zero-divisor\n", "", BY_ZERO.format(7, 39), False),
+    ("stopped 7:32 zero-divisor\n", "", BY_ZERO.format(7, 39), True),
+    ("stopped 7:32 zero-divisor\n", "", BY_ZERO.format(7, 50), False),
+    ("stopped 7:44 zero-divisor\n", "", BY_ZERO.format(7, 39), False),
+    ("stopped 7:44 zero-divisor\n", "", BY_ZERO.format(7, 50), True),
+    ("stopped 8:5 zero-divisor\n", "", BY_ZERO.format(8, 23), False),
+    ("stopped 8:17 zero-divisor\n", "", BY_ZERO.format(8, 23), True),
+    ("stopped 8:51 zero-divisor\n", "", BY_ZERO.format(8, 57), True),
+    ("stopped 9:13 zero-divisor\n", "", BY_ZERO.format(9, 21), True),
+    ("stopped 9:13 zero-divisor\n", "", BY_ZERO.format(9, 33), False),
+    ("stopped 9:26 zero-divisor\n", "", BY_ZERO.format(9, 33), True),
     ("file: F12 at 1:1\n", "file: F12 at 1:1\n", "", False),
     ("", "", "Segmentation fault\n", False),
 ]

@@ -4,7 +4,7 @@ from __future__ import annotations
 from collections.abc import Iterator
 from pathlib import Path
 
-from .cases import CASES, OUTCOMES, TWO_LINES, Case
+from .cases import CASES, COMPARED, OUTCOMES, Case
 from .clang import MODES, Clang, NotCompiled
 from .comparing import Comparison, Counts
 from .famlint import Famlint, Refused
@@ -67,11 +67,11 @@ def wrong_outcomes() -> Iterator[str]:
     """A line for each two outcomes that are not told to be the same or to differ as they are."""
     for output, written, errors, is_wanted in OUTCOMES:
         counts = Counts()
-        lines = Comparison.run("a run", TWO_LINES, [], told(output), lambda given: seen(written, errors), counts)
+        lines = Comparison.run("a run", COMPARED, [], told(output), lambda given: seen(written, errors), counts)
         if is_wanted != (not lines) or counts.beyond or sum(counts.runs.values()) != 1:
             yield f"{output!r} and {written!r}, {errors!r}: {lines or 'taken for the same'}"
     counts = Counts()
-    if Comparison.run("a run", TWO_LINES, [], told("at 3:5 x=0 y=0\n"), seen, counts) or counts.beyond != 1 or counts.runs:
+    if Comparison.run("a run", COMPARED, [], told("at 3:5 x=0 y=0\n"), seen, counts) or counts.beyond != 1 or counts.runs:
         yield f"a run that is not done is not left out: {RUNNING}"
 
 

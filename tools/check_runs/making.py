@@ -1,15 +1,16 @@
-"""Makes families at random, by a seed, within the C that famlint reads: groups, loops, assertions, the short forms of assignments,
-constants, number features as values, functions outside, and variables of `main`, in which overflows, zero divisors and failed assertions do
-occur."""
+"""Makes families at random, by a seed, within the C that famlint reads: groups, loops by `while` and by `for`, assertions, the short forms of
+assignments, constants, number features as values, functions outside, and variables of `main`, in which overflows, zero divisors and failed
+assertions do occur."""
 from __future__ import annotations
 
 import json
 import random
+import re
 from collections.abc import Callable, Iterable, Iterator
 
 from .expressions import COMPARING, Expressions
 from .families import Family
-from .outcomes import code_of
+from .outcomes import MAIN, code_of, declarators
 
 SWITCHES = ("FAST", "SAFE", "LOG")
 CONSTANTS = ("BASE", "STEP", "TOP", "LAST")
@@ -20,6 +21,44 @@ TYPES = ("int", "int", "int", "int", "signed", "signed int", "int signed", "int3
 # The least values of number features: mostly about 0, so that divisors by them may be 0, and the ends of what a model takes.
 LOWS = (-2, -2, 0, 0, 1, 1, -7, 1048560, -1048576)
 DEPTH = 3
+
+# Parts of `for` loops that end: how they start, what they test and how they step, with their counter `{i}`, a bound `{n}` and an input
+# `{call}`. An absent start has the counter as the loop before left it, and with an absent step the body counts up.
+UP = (
+    ("{i} = 0", "{i} = 0", "{i} = 0", "", "{i} = -2", "{i} = {n} - 5", "{i} *= 0", "{i} %= 3", "{i} -= 4", "{i}--", "++{i}"),
+    ("{i} < {n}", "{i} < {n}", "{i} <= {n}", "{n} > {i}", "!({i} >= {n})"),
+    ("{i}++", "{i}++", "{i}++", "++{i}", "{i} += 2", "{i} = {i} + 3", ""),
+)
+DOWN = (
+    ("{i} = {n}", "{i} = 9", "{i} += 6", "{i} = 2 * {n} + 1"),
+    ("{i} > 0", "{i} >= 1", "0 < {i}"),
+    ("{i}--", "--{i}", "{i} -= 2", "{i} /= 2", "{i} = {i} - 1"),
+)
+TO_ZERO = (
+    ("", "{i} = {call}", "{i} = {call}", "{i} += {n}"),
+    ("{i}", "{i} != 0", "{i} / 3"),
+    ("{i} /= 2", "{i} = {i} / 3", "{i} = {call}"),
+)
+
+
+# What made families are counted by.
+HELD: dict[str, Callable[[Family], object]] = {
+    "a `#define`": lambda family: re.search(r"#\s*define\b", code_of(family.file)),
+    "a number feature in the code": Family.valued,
+    "a `for`": lambda family: re.search(r"\bfor\b", code_of(family.file)),
+    "variables of `main`": lambda family: declarators(family.file),
+    "one name in several blocks": lambda family: has_twins([it.split("=")[0].strip() for it in declarators(family.file)]),
+    "a call of a function outside": lambda family: re.search(rf"\b({'|'.join(FUNCTIONS)}|note)\(", MAIN.split(code_of(family.file))[-1]),
+}
+
+
+def has_twins(names: list[str]) -> bool:
+    return len(set(names)) < len(names)
+
+
+def held(families: list[Family]) -> str:
+    """How many of these made families have what."""
+    return ", ".join(f"{sum(bool(has(it)) for it in families)} with {name}" for name, has in HELD.items())
 
 
 def laid_out(lines: Iterable[str]) -> Iterator[str]:
@@ -34,13 +73,15 @@ def laid_out(lines: Iterable[str]) -> Iterator[str]:
 class Maker:
     """A family in the making. `free` are the variables that every configuration declares, `some` those of one switch each, `constants`
     what every configuration declares by `const`, `enum` or `#define`, with the number features that stand in the code, `other` the
-    constants of one switch each, `functions` the functions outside with a value, and `locals` names for variables of `main`."""
+    constants of one switch each, `functions` the functions outside with a value, and `locals` names for variables of `main`. `counters`
+    are variables that loops alone change, and `counting` those of the loops around a statement."""
 
     def __init__(self, rng: random.Random):
         self.rng = rng
         self.switches = list(SWITCHES[:rng.randint(1, len(SWITCHES))])
         self.numbers = [self.number(name, most) for name, most, share in (("SIZE", 12, 0.7), ("WIDTH", 3, 0.3)) if rng.random() < share]
         self.counters: list[str] = []
+        self.counting: list[str] = []
         self.free: list[str] = []
         self.some: dict[str, str] = {}
         self.constants: list[str] = []
@@ -194,34 +235,44 @@ class Maker:
         """A call whose value is an input."""
         return f"{self.rng.choice([it for it in self.functions if it != 'note'])}()"
 
+    def over(self, scope: list[str]) -> Expressions:
+        """Expressions over what may be read where these variables may be changed."""
+        return Expressions(self.rng, scope + self.counters + self.constants)
+
     def local(self, scope: list[str]) -> tuple[list[str], list[str]]:
         """A declaration in a list of `main`, and the variables that what follows it there may change. Without an initialiser a value would be
         any, and clang need not take it from the inputs."""
         rng = self.rng
-        of = Expressions(rng, scope + self.counters + self.constants)
+        of = self.over(scope)
         names = [self.locals.pop() for _ in range(min(len(self.locals), rng.choice((1, 1, 2))))]
         listed = ", ".join(f"{name} = {self.taken() if rng.random() < 0.3 else of.value(rng.choice((0, 1, 2)))}" for name in names)
         if rng.random() < 0.25:
             return [f"{rng.choice(('const int', 'int const', 'const signed'))} {listed};"], []
         return [f"{rng.choice(TYPES)} {listed};"], names
 
+    def change(self, scope: list[str]) -> str:
+        """A change of a variable, as a statement has it before its semicolon, and a `for` in its parentheses."""
+        rng = self.rng
+        of = self.over(scope)
+        kind = rng.choices(("set", "take", "update", "count"), (6, 5, 5, 3))[0]
+        name = rng.choice(scope)
+        if kind == "set":
+            return f"{name} = {of.value(rng.choice((1, 2, 3)))}"
+        if kind == "take":
+            return f"{name} = {self.taken()}"
+        if kind == "update":
+            operator = rng.choices(("+=", "-=", "*=", "/=", "%="), (4, 4, 4, 1, 1))[0]
+            return f"{name} {operator} {of.value(rng.choice((0, 0, 1, 2)))}"
+        return rng.choice((f"{name}++", f"{name}--", f"++{name}", f"--{name}"))
+
     def simple(self, scope: list[str]) -> str:
         """A statement that holds no other."""
         rng = self.rng
-        of = Expressions(rng, scope + self.counters + self.constants)
-        kind = rng.choices(("set", "take", "update", "count", "assert", "nothing"), (6, 5, 5, 3, 3, 0.5))[0]
-        name = rng.choice(scope)
-        if kind == "set":
-            return f"{name} = {of.value(rng.choice((1, 2, 3)))};"
-        if kind == "take":
-            return f"{name} = {self.taken()};"
-        if kind == "update":
-            operator = rng.choices(("+=", "-=", "*=", "/=", "%="), (4, 4, 4, 1, 1))[0]
-            return f"{name} {operator} {of.value(rng.choice((0, 0, 1, 2)))};"
-        if kind == "count":
-            return rng.choice((f"{name}++;", f"{name}--;", f"++{name};", f"--{name};"))
+        kind = rng.choices(("change", "assert", "nothing"), (19, 3, 0.5))[0]
+        if kind == "change":
+            return f"{self.change(scope)};"
         if kind == "assert":
-            return f"assert({of.likely(name)});"
+            return f"assert({self.over(scope).likely(rng.choice(scope))});"
         return rng.choice(("note();", "(void)note();")) if "note" in self.functions else ";"
 
     def block(self, scope: list[str], depth: int, *first: str) -> list[str]:
@@ -231,33 +282,68 @@ class Maker:
         self.locals = free
         return lines
 
-    def loop(self, scope: list[str], depth: int) -> list[str]:
-        """A loop, mostly one that a counter of its own ends."""
-        rng = self.rng
-        if rng.random() < 0.25:
-            test = Expressions(rng, scope + self.constants).test(2)
-            return [f"while ({test})", *self.body(scope, depth)]
-        if not self.counters:
-            return [self.simple(scope)]
-        counter = self.counters.pop()
+    def header(self, start: str, test: str, step: str) -> str:
+        """The parentheses of a `for`, perhaps in several lines."""
+        gap = self.rng.choices((" ", "", "\n        ", " /* a note; and more) */ "), (12, 2, 1, 1))[0]
+        return f"for ({start};{gap}{test};{gap}{step})"
+
+    def bound(self) -> str:
+        """What a counter is compared with."""
         # (a feature of great values would leave out most runs for their length)
         great = [it["name"] for it in self.numbers if it["min"] > 100]
-        bound = rng.choice((*(it for it in self.constants if it not in great), *[str(rng.randint(1, 12))] * 4))
-        lines = [f"{counter} = 0;", f"while ({counter} < {bound})", *self.block(scope, depth - 1, f"{counter}++;")]
-        self.counters.append(counter)
+        return self.rng.choice((*(it for it in self.constants if it not in great), *[str(self.rng.randint(1, 12))] * 4))
+
+    def counted(self, counter: str, scope: list[str], depth: int) -> list[str]:
+        """A `for` that its counter ends."""
+        rng = self.rng
+        form = rng.choices((UP, DOWN, TO_ZERO), (7, 2, 1))[0]
+        bound = self.bound()
+        start, test, step = (rng.choice(it).format(i=counter, n=bound, call=self.taken()) for it in form)
+        if form is UP and rng.random() < 0.15:
+            test = f"{test} && ({self.over(scope).test(1)})"
+        return [self.header(start, test, step), *(self.body(scope, depth) if step else self.block(scope, depth - 1, f"{counter}++;"))]
+
+    def any_loop(self, scope: list[str], depth: int) -> list[str]:
+        """A loop that need not end."""
+        rng = self.rng
+        test = self.over(scope).test(2)
+        if rng.random() < 0.5:
+            return [f"while ({test})", *self.body(scope, depth)]
+        start, step = (self.change(scope) if rng.random() < 0.8 else "" for _ in range(2))
+        return [self.header(start, test, step), *self.body(scope, depth)]
+
+    def loop(self, scope: list[str], depth: int, is_one: bool = False) -> list[str]:
+        """A loop, mostly one that a counter of its own ends; or one that is a single statement."""
+        rng = self.rng
+        if rng.random() < 0.25:
+            return self.any_loop(scope, depth)
+        left = [it for it in self.counters if it not in self.counting]
+        if not left:
+            return [self.simple(scope)]
+        self.counting.append(left[-1])
+        if is_one or rng.random() < 0.6:
+            lines = self.counted(left[-1], scope, depth)
+        else:
+            lines = [f"{left[-1]} = 0;", f"while ({left[-1]} < {self.bound()})", *self.block(scope, depth - 1, f"{left[-1]}++;")]
+        self.counting.pop()
         return lines
 
+    def endless(self) -> list[str]:
+        """A `for` without a test, as the last statement of `main`, since it is left by a stop or a wait for an input alone."""
+        start, step = (self.change(self.free) if self.rng.random() < 0.3 else "" for _ in range(2))
+        return [self.header(start, "", step), *self.block(self.free, DEPTH - 1, f"{self.rng.choice(self.free)} = {self.taken()};")]
+
     def body(self, scope: list[str], depth: int) -> list[str]:
-        """What an `if` or a `while` holds: one statement, perhaps an `if` again, or a block."""
+        """What an `if` or a loop holds: one statement, perhaps an `if` or a `for` again, or a block."""
         rng = self.rng
-        if depth > 0 and rng.random() < 0.3:
-            return self.choice(scope, depth - 1)
+        if depth > 0 and rng.random() < 0.4:
+            return self.choice(scope, depth - 1) if rng.random() < 0.7 else self.loop(scope, depth - 1, is_one=True)
         if rng.random() < 0.4:
             return [f"    {self.simple(scope)}"]
         return self.block(scope, depth - 1)
 
     def choice(self, scope: list[str], depth: int) -> list[str]:
-        lines = [f"if ({Expressions(self.rng, scope + self.counters + self.constants).test(2)})", *self.body(scope, depth)]
+        lines = [f"if ({self.over(scope).test(2)})", *self.body(scope, depth)]
         return lines + (["else", *self.body(scope, depth)] if self.rng.random() < 0.5 else [])
 
     def group(self, scope: list[str], depth: int) -> list[str]:
@@ -295,6 +381,7 @@ class Maker:
     def file(self) -> str:
         rng = self.rng
         body = [line for _ in range(rng.randint(2, 4)) for line in self.statements(self.free, DEPTH)]
+        body += self.endless() if rng.random() < 0.1 else []
         head = rng.choice(("int main(void)", "int main()", "signed main(void)"))
         last = rng.choice(([], ["return 0;"], ["return 3;"]))
         return "\n".join(laid_out([*self.declarations, f"{head} {{", *body, *last, "}", ""]))

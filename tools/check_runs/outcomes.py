@@ -83,15 +83,19 @@ def offset(text: str, line: int, column: int) -> int:
 
 
 def stands_in(text: str, statement: Outcome, operator: Outcome) -> bool:
-    """Whether an operator belongs to the expression of the statement that begins at a place: no statement ends or begins between them,
-    and what follows an `if` or a `while` is within its parentheses."""
+    """Whether an operator belongs to the expression of the statement, or of the part of a `for`, that begins at a place: no statement ends
+    or begins between them, and neither do the parentheses of the `for`; what follows an `if` or a `while` is within its own."""
     code = code_of(text)
     begin, at = offset(code, statement.line, statement.column), offset(code, operator.line, operator.column)
     between = code[begin:at]
     if begin > at or re.search(r"[;{}]", between):
         return False
-    is_headed = re.match(r"(if|while)\b", code[begin:]) is not None
-    return not is_headed or between.count("(") > between.count(")")
+    least, depth = (1 if re.match(r"(if|while)\b", code[begin:]) else 0), 0
+    for it in between:
+        depth += (it == "(") - (it == ")")
+        if it == ")" and depth < least:
+            return False
+    return depth >= least
 
 
 def closing_line(text: str, statement: Outcome) -> int:

@@ -5,7 +5,7 @@ import unicodedata
 
 TOKEN = re.compile(
     rb"[A-Za-z0-9_]+|#[ \t]*[A-Za-z]*|/\*|//|\+\+|--|[-+*/%<>=!]=|&&|\|\||\"(?:\\.|[^\"\n])*\"?|'(?:\\.|[^'\\\n])*'?|[\x21-\x7e]|[\x80-\xff]+")
-OPEN = re.compile(rb"(?!\s*(?:#|if\b|while\b|else\b|int\s+main\b)).*(?:\w|\)|\+\+|--)\s*")
+OPEN = re.compile(rb"(?!\s*(?:#|if\b|while\b|for\b|else\b|int\s+main\b)).*(?:\w|\)|\+\+|--)\s*")
 WIDEST = 160
 BESIDE = 60
 

@@ -14,7 +14,7 @@ moving_where n e op step limit by =
 -- `while (z < 3) { z = input(); .. }` around it
 abbrev pub moving_loop : ℕ → ℕ → Term → Op → Op → ℤ → ℤ → Code
 moving_loop n z e op step limit by =
-    While (line n) (Binary Lt (Var z) (Number (pos 3))) (Input (line (n + 1)) z (moving_where (n + 2) e op step limit by)) Done
+    While (line n) (Binary Lt (Var z) (Number (pos 3))) Done (Input (line (n + 1)) z (moving_where (n + 2) e op step limit by)) Done
 
 -- `y = input();`, `assert(0 <= y && y <= 1000);` and `x = 0 op y;` in the lines 3 to 5, where x and y are the variables 0 and 1
 abbrev pub paired : Op → Code

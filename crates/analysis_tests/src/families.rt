@@ -62,7 +62,7 @@ fn grown(alloc: Global, line: u32, x: u32, n: i64) -> Result<Vec<Stmt>, NoMemory
 pub(crate) fn counted(alloc: Global, line: u32, x: u32, n: i64) -> Result<Vec<Stmt>, NoMemory>
     requires { line < 1000 }
     ensures { IfOk result (λ made. code made.items
-        ≡ While (record { line = line; column = 1 }) (Binary op.Lt (Var x) (Number n))
+        ≡ While (record { line = line; column = 1 }) (Binary op.Lt (Var x) (Number n)) Done
         (Assign (record { line = line + 1; column = 1 }) x (Binary op.Add (Var x) (Number (pos 1))) Done) Done) }
 {
     let test = less(alloc, x, n)?;
@@ -72,6 +72,7 @@ pub(crate) fn counted(alloc: Global, line: u32, x: u32, n: i64) -> Result<Vec<St
         Stmt::While {
             place: at(line),
             test,
+            step: Vec::new(alloc),
             body,
         },
     )
@@ -132,6 +133,7 @@ fn outer(alloc: Global) -> Result<Vec<Stmt>, NoMemory>
         Stmt::While {
             place: at(10),
             test,
+            step: Vec::new(alloc),
             body,
         },
     )
@@ -183,7 +185,7 @@ pub(crate) fn set(alloc: Global, line: u32, x: u32, value: Expr) -> Result<Vec<S
 /// `while (a < 3) { if (b < a) b = 3; a = b + 2; }` in the lines 12 to 15.
 fn restless(alloc: Global) -> Result<Vec<Stmt>, NoMemory>
     ensures { IfOk result (λ made. code made.items
-        ≡ While (record { line = 12; column = 1 }) (Binary op.Lt (Var 0) (Number (pos 3)))
+        ≡ While (record { line = 12; column = 1 }) (Binary op.Lt (Var 0) (Number (pos 3))) Done
         (If (record { line = 13; column = 1 }) (Binary op.Lt (Var 1) (Var 0)) (Assign (record { line = 14; column = 1 }) 1 (Number (pos 3)) Done) Done
         (Assign (record { line = 15; column = 1 }) 0 (Binary op.Add (Var 1) (Number (pos 2))) Done)) Done) }
 {
@@ -203,6 +205,7 @@ fn restless(alloc: Global) -> Result<Vec<Stmt>, NoMemory>
         Stmt::While {
             place: at(12),
             test,
+            step: Vec::new(alloc),
             body,
         },
     )
@@ -223,6 +226,7 @@ fn unsteady(alloc: Global) -> Result<Vec<Stmt>, NoMemory>
         Stmt::While {
             place: at(10),
             test,
+            step: Vec::new(alloc),
             body,
         },
     )
@@ -260,6 +264,7 @@ fn spread(alloc: Global) -> Result<Vec<Stmt>, NoMemory>
         Stmt::While {
             place: at(4),
             test,
+            step: Vec::new(alloc),
             body,
         },
     )?;
@@ -356,6 +361,7 @@ fn restarted(alloc: Global) -> Result<Vec<Stmt>, NoMemory>
             Stmt::While {
                 place: at(47 - 2 * k),
                 test,
+                step: Vec::new(alloc),
                 body: inner,
             },
         )?;

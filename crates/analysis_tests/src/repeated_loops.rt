@@ -43,6 +43,7 @@ fn alike(alloc: Global) -> Result<Vec<Stmt>, NoMemory>
         Stmt::While {
             place: at(4),
             test,
+            step: Vec::new(alloc),
             body,
         },
     )

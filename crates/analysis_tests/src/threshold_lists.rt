@@ -153,6 +153,7 @@ fn nested(alloc: Global) -> Result<Program, NoMemory> {
         Stmt::While {
             place: place(),
             test: Expr::Number(10),
+            step: Vec::new(alloc),
             body: one(alloc, block)?,
         },
     )?;

@@ -76,6 +76,7 @@ pub(crate) fn looping(
         Stmt::While {
             place: at(line, 1),
             test,
+            step: Vec::new(alloc),
             body,
         },
     )
@@ -304,6 +305,7 @@ fn counting(alloc: Global) -> Result<Program, NoMemory>
     let turning = Stmt::While {
         place: at(3, 1),
         test: binary(alloc, Op::Lt, Expr::Var(0), Expr::Number(10))?,
+        step: Vec::new(alloc),
         body: one(alloc, step)?,
     };
     Ok(Program {

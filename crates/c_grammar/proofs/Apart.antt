@@ -11,7 +11,7 @@ use Rattle.c_grammar.specs.declared.constants.NameKind.TheVariants as kinds
 use Rattle.c_grammar.specs.declared.items.Item.{Item}
 use Rattle.c_grammar.specs.declared.items.Sign.{Sign}
 use Rattle.c_grammar.specs.declared.items.Sign.TheVariants as signs
-use Rattle.c_grammar.specs.Grammar.{at, Prefix, Positive, Negative, Inverse, prefix_sign, Expresses, number, name, group, prefix, loose, binary, Update, Sum, Difference, Product, Quotient, Remainder, update_sign, Count, Raise, Lower, count_sign, LocalDeclarator, uninitialised, initialised, from_call, Shape, Listed, Stated, Chained, Locals, Writes, none, more, choice, local, last_local, next_local, ends, otherwise, elif, assign, Callable, of_input, of_function, input, call, void_call, update, count, prefix_count, assert, skip, block, while, if_then, if_else, Optional, absent, present, Typed, int, int32, signed, signed_int, int_signed, Qualifier, Unqualified, Constant, Counted, behind, Qualified, unqualified, const_before, const_behind, Begins, only_type, then_type, enumeration, Declarator, bare, positive, negative, counted, Ending, variables_end, constants_end, enumeration_end, comma_end, Defines, defined, negative_defined, enclosed, negative_enclosed, Part, Outer, Vars, Later, Declares, nothing, variables, prototype, void_prototype, definition, section, last_var, next_var, end_part, else_part, elif_part, Returns, no_return, return, Gap, Empty, no_more, empty_section, empty_end, empty_else, empty_elif, Body, body, Main, main, file, is_group}
+use Rattle.c_grammar.specs.Grammar.{at, Prefix, Positive, Negative, Inverse, prefix_sign, Expresses, number, name, group, prefix, loose, binary, Update, Sum, Difference, Product, Quotient, Remainder, update_sign, Count, Raise, Lower, count_sign, Callable, of_input, of_function, Changes, assignment, input_taken, compound_assignment, count_behind, count_before, Clause, no_clause, clause, Tests, no_test, test, LocalDeclarator, uninitialised, initialised, from_call, Shape, Listed, Stated, Chained, Locals, Writes, none, more, choice, local, last_local, next_local, ends, otherwise, elif, change, call, void_call, assert, skip, block, while, for, if_then, if_else, Optional, absent, present, Typed, int, int32, signed, signed_int, int_signed, Qualifier, Unqualified, Constant, Counted, behind, Qualified, unqualified, const_before, const_behind, Begins, only_type, then_type, enumeration, Declarator, bare, positive, negative, counted, Ending, variables_end, constants_end, enumeration_end, comma_end, Defines, defined, negative_defined, enclosed, negative_enclosed, Part, Outer, Vars, Later, Declares, nothing, variables, prototype, void_prototype, definition, section, last_var, next_var, end_part, else_part, elif_part, Returns, no_return, return, Gap, Empty, no_more, empty_section, empty_end, empty_else, empty_elif, Body, body, Main, main, file, is_group}
 use Rattle.c_grammar.specs.Constants.{kind_behind_name, AreApart, DirectivesStandApart}
 
 -- text in front of which directives may stand: where what follows it is apart, the whole is
@@ -61,13 +61,9 @@ update_apart Product q w h = (tt, h)
 update_apart Quotient q w h = (tt, h)
 update_apart Remainder q w h = (tt, h)
 
-count_apart : (u : Count) (q r : Place) (joined : Bool) (w : List Item) → AreApart kinds.Variable false w → AreApart kinds.Variable joined (at q (count_sign u) ∷ at r signs.Semicolon ∷ w)
-count_apart Raise q r joined w h = (tt, (tt, h))
-count_apart Lower q r joined w h = (tt, (tt, h))
-
-prefix_count_apart : (u : Count) (p q r : Place) (x : ℕ) (w : List Item) → AreApart kinds.Variable false w → AreApart kinds.Variable false (at p (count_sign u) ∷ at q (signs.Name x) ∷ at r signs.Semicolon ∷ w)
-prefix_count_apart Raise p q r x w h = (tt, (tt, (tt, h)))
-prefix_count_apart Lower p q r x w h = (tt, (tt, (tt, h)))
+count_apart : (u : Count) (q : Place) (joined : Bool) (w : List Item) → AreApart kinds.Variable true w → AreApart kinds.Variable joined (at q (count_sign u) ∷ w)
+count_apart Raise q joined w h = (tt, h)
+count_apart Lower q joined w h = (tt, h)
 
 function_apart : {f : Sign} (kind : NameKind) (p : Place) (joined : Bool) (w : List Item) → Callable f → AreApart kind false w → AreApart kind joined (at p f ∷ w)
 function_apart kind p joined w of_input h = (tt, h)
@@ -97,6 +93,25 @@ local_apart (initialised p q x {kind} {ts} e) = λ joined y w g h. name_apart ki
 local_apart (from_call p q r s t x {kind} {f} g) = λ joined y w i h.
     name_apart kind p x joined (at q signs.Equals ∷ at r f ∷ at s signs.Open ∷ at t signs.Close ∷ y ∷ w) (tt, function_apart (names_of kind) r true (at s signs.Open ∷ at t signs.Close ∷ y ∷ w) g (tt, (tt, h false)))
 
+-- ---- changes, and the parentheses of a `for`
+
+-- a change, before what ends it
+change_apart : {ts : List Item} {c : Code} → Changes ts c → Runs Unqualified ts
+change_apart (assignment p q x {ts} e) = λ joined y w g h. name_apart Unqualified p x joined (at q signs.Equals ∷ (ts ++ y ∷ w)) (tt, expr_runs Unqualified e true y w g h)
+change_apart (input_taken p q r s t x {f} i) = λ joined y w g h.
+    name_apart Unqualified p x joined (at q signs.Equals ∷ at r f ∷ at s signs.Open ∷ at t signs.Close ∷ y ∷ w) (tt, function_apart kinds.Variable r true (at s signs.Open ∷ at t signs.Close ∷ y ∷ w) i (tt, (tt, h false)))
+change_apart (compound_assignment p q x u {ts} e) = λ joined y w g h. name_apart Unqualified p x joined (at q (update_sign u) ∷ (ts ++ y ∷ w)) (update_apart u q (ts ++ y ∷ w) (expr_runs Unqualified e false y w g h))
+change_apart (count_behind p q x u) = λ joined y w g h. name_apart Unqualified p x joined (at q (count_sign u) ∷ y ∷ w) (count_apart u q true (y ∷ w) (h true))
+change_apart (count_before p q x u) = λ joined y w g h. count_apart u p joined (at q (signs.Name x) ∷ y ∷ w) (name_apart Unqualified q x true (y ∷ w) (h true))
+
+clause_apart : {ts : List Item} {c : Code} → Clause ts c → Runs Unqualified ts
+clause_apart no_clause = λ joined y w g h. h joined
+clause_apart (clause s) = change_apart s
+
+test_apart : {ts : List Item} {p : Place} {e : Term} → Tests ts p e → Leaves ts
+test_apart (no_test z) w h = (tt, h)
+test_apart (test z {x} {ts} s) w h = closed false s (at z signs.Semicolon) [] w refl (λ b. (tt, h))
+
 -- ---- statements
 
 -- the declarators of a declaration stand where its names are of its kind
@@ -120,17 +135,18 @@ code_apart (next_local p {ts} {us} {kind = kind} d v) = λ w h.
 code_apart (ends p) = λ w h. ((refl, refl), h)
 code_apart (otherwise p q {ts} s) = λ w h. ((refl, refl), both ts (at q signs.GroupEnd ∷ []) (code_apart s) (λ v i. ((refl, refl), i)) w h)
 code_apart (elif p n {ts} {us} s t) = λ w h. ((refl, refl), both ts us (code_apart s) (code_apart t) w h)
-code_apart (assign p q r x {ts} e) = λ w h. (tt, (tt, closed true e (at r signs.Semicolon) [] w refl (λ b. (tt, h))))
-code_apart (input p q r s t u x g) = λ w h. (tt, (tt, function_apart kinds.Variable r true (at s signs.Open ∷ at t signs.Close ∷ at u signs.Semicolon ∷ w) g (tt, (tt, (tt, h)))))
+code_apart (change r {ts} s) = λ w h. subst (AreApart kinds.Variable false) (sym (append_assoc ts (at r signs.Semicolon ∷ []) w)) (change_apart s false (at r signs.Semicolon) w refl (λ b. (tt, h)))
 code_apart (call p q r s g) = λ w h. function_apart kinds.Variable p false (at q signs.Open ∷ at r signs.Close ∷ at s signs.Semicolon ∷ w) g (tt, (tt, (tt, h)))
 code_apart (void_call p q r s t u v g) = λ w h. (tt, (tt, (tt, function_apart kinds.Variable s false (at t signs.Open ∷ at u signs.Close ∷ at v signs.Semicolon ∷ w) g (tt, (tt, (tt, h))))))
-code_apart (update p q r x u {ts} e) = λ w h. (tt, update_apart u q ((ts ++ at r signs.Semicolon ∷ []) ++ w) (closed false e (at r signs.Semicolon) [] w refl (λ b. (tt, h))))
-code_apart (count p q r x u) = λ w h. (tt, count_apart u q r true w h)
-code_apart (prefix_count p q r x u) = λ w h. prefix_count_apart u p q r x w h
 code_apart (assert p q r s {ts} e) = λ w h. (tt, (tt, closed false e (at r signs.Close) (at s signs.Semicolon ∷ []) w refl (λ b. (tt, (tt, h)))))
 code_apart (skip p) = λ w h. (tt, h)
 code_apart (block p q {ts} s) = λ w h. (tt, both ts (at q signs.RightBrace ∷ []) (code_apart s) (λ v i. (tt, i)) w h)
 code_apart (while p q r {b} {ts} {us} e s) = λ w h. (tt, (tt, closed false e (at r signs.Close) us w refl (λ b. (tt, code_apart s w h))))
+code_apart (for p q r z {b} {ts} {us} {vs} {ws} first middle last s) = λ w h.
+    let tail : List Item = us ++ (vs ++ at z signs.Close ∷ (ws ++ w)) in
+    let re : (ts ++ at r signs.Semicolon ∷ (us ++ (vs ++ at z signs.Close ∷ ws))) ++ w ≡ ts ++ at r signs.Semicolon ∷ tail = simp append_assoc in
+    let rest : AreApart kinds.Variable false tail = test_apart middle (vs ++ at z signs.Close ∷ (ws ++ w)) (clause_apart last false (at z signs.Close) (ws ++ w) refl (λ c. (tt, code_apart s w h))) in
+    (tt, (tt, subst (AreApart kinds.Variable false) (sym re) (clause_apart first false (at r signs.Semicolon) tail refl (λ c. (tt, rest)))))
 code_apart (if_then p q r {b} {ts} {us} e s) = λ w h. (tt, (tt, closed false e (at r signs.Close) us w refl (λ b. (tt, code_apart s w h))))
 code_apart (if_else p q r z {b} {ts} {us} {vs} e s t) = λ w h.
     (tt, (tt, closed false e (at r signs.Close) (us ++ at z signs.Else ∷ vs) w refl (λ b. (tt, both us (at z signs.Else ∷ vs) (code_apart s) (λ v i. (tt, code_apart t v i)) w h))))

@@ -1,18 +1,19 @@
 -- Whatever is open within the limits can be closed within them: the text that closes it opens nothing more, and has no
 -- operator.
-use Rattle.std.proofs.Common.{◌≡◌, ℕ, ℤ, pos, neg_ℤ, suc, ◌≤◌, List, [], ◌∷◌, Ok, refl, subst, ◌∙◌, arith}
+use Rattle.std.proofs.Common.{◌≡◌, ℕ, ℤ, pos, neg_ℤ, suc, ◌≤◌, List, [], ◌∷◌, Some, Ok, refl, subst, ◌∙◌, arith}
 use Rattle.fam_outer.specs.declared.faults.Place.{Place}
 use Rattle.c_tree.specs.declared.lists.Declared.{Declared}
-use Rattle.c_tree.specs.Tree.{Term, Var, Binary, Code, Done, Assign, Assert, If, While, Block, Skip, Cond, followed}
+use Rattle.c_tree.specs.Tree.{Term, Number, Var, Binary, Code, Done, Assign, Assert, If, While, Block, Skip, Cond, followed}
 use Rattle.c_grammar.specs.declared.items.Sign.TheVariants as signs
 use Rattle.c_grammar.specs.declared.items.Item.{Item}
-use Rattle.c_grammar.specs.Grammar.{at, tighter, applied, updated, changed_by_one, Qualifier, Unqualified, Constant, Counted, uncounted, File, file_of}
+use Rattle.c_grammar.specs.Grammar.{at, tighter, applied, updated, changed_by_one, Raise, Qualifier, Unqualified, Constant, Counted, uncounted, File, file_of}
 use Rattle.c_grammar.specs.Ahead.{Loose, NoElse}
-use Rattle.c_grammar.specs.Machine.{Tailing, Another, Final, Frame, Paren, Pre, Left, Stack, Top, Braces, Yes, No, ThenOf, ElseOf, LoopOf, Use, ToAssign, ToInitialise, ToUpdate, ToAssert, ToChoose, ToLoop, Pending, OfStatement, OfLocal, Sections, Outermost, InPart, InLast, Aim, ToPrototype, ToMain, ReadingState, Outside, AfterStatic, AfterExtern, AfterConst, AfterEnum, AfterVoidType, AfterType, NoWord, StaticWord, ExternWord, ConstWord, Declaring, Bare, Starting, Negating, Started, Listing, Enumerated, AfterDefine, Defining, NegativeDefining, Enclosing, NegativeEnclosing, Enclosed, Parameters, InParameters, AfterVoid, AfterParameters, Ready, LocalConst, LocalType, NextLocal, LocalNamed, Ended, Wants, Has, Counting, Named, Opens, VoidComes, VoidCloses, CallComes, CallOpens, CallCloses, Finishing, Returning, Returned, Closing, Over, with_declared, folded, linked}
+use Rattle.c_grammar.specs.Machine.{Tailing, Another, Final, Frame, Paren, Pre, Left, Stack, Top, Braces, Yes, No, ThenOf, ElseOf, LoopOf, Site, AsStatement, AsStart, AsStep, Use, ToAssign, ToInitialise, ToUpdate, ToAssert, ToChoose, ToLoop, ToRepeat, Pending, OfStatement, OfLocal, Sections, Outermost, InPart, InLast, Aim, ToPrototype, ToMain, ReadingState, Outside, AfterStatic, AfterExtern, AfterConst, AfterEnum, AfterVoidType, AfterType, NoWord, StaticWord, ExternWord, ConstWord, Declaring, Bare, Starting, Negating, Started, Listing, Enumerated, AfterDefine, Defining, NegativeDefining, Enclosing, NegativeEnclosing, Enclosed, Parameters, InParameters, AfterVoid, AfterParameters, Ready, LocalConst, LocalType, NextLocal, LocalNamed, Ended, Wants, Has, Counting, Named, Opens, ForOpens, StartComes, TestComes, StepComes, VoidComes, VoidCloses, CallComes, CallOpens, CallCloses, Finishing, Returning, Returned, Closing, Over, with_declared, folded, linked, step}
 use Rattle.c_grammar.specs.Deep.{guarded}
 use Rattle.c_grammar.proofs.Complete.{pre_step, left_step, loop_step, else_step, then_step}
 use Rattle.c_grammar.proofs.Closing.{nowhere, closers, closers_no_else}
 use Rattle.c_grammar.proofs.CompleteWithin.{takes, same_within}
+use Rattle.c_grammar.proofs.StatesWithin.{last_sign, then_comes, assigned_there, updated_there}
 
 closes : (outer : Stack) (c : Code) (n : ℕ) → (made : File) × (guarded (Ended outer c) n (closers outer) ≡ Ok made)
 unfolding closers guarded
@@ -22,13 +23,28 @@ closes (Yes links i made outer) c n = closes outer (linked links (Cond i (follow
 closes (No links i first made outer) c n = closes outer (linked links (Cond i first (followed made c) Done)) 0
 closes (ThenOf p e outer) c n =
     let h = closes outer (If p e c Done Done) n in
-    (h.0, same_within (Ended (ThenOf p e outer) c) (Ended outer (If p e c Done Done)) n refl refl refl (closers outer) (λ x y is. then_step p e outer c x.place x.sign (subst NoElse is (closers_no_else outer))) ∙ h.1)
+    (h.0, same_within (Ended (ThenOf p e outer) c) (Ended outer (If p e c Done Done)) n refl refl refl refl (closers outer) (λ x y is. then_step p e outer c x.place x.sign (subst NoElse is (closers_no_else outer))) ∙ h.1)
 closes (ElseOf p e first outer) c n =
     let h = closes outer (If p e first c Done) n in
-    (h.0, same_within (Ended (ElseOf p e first outer) c) (Ended outer (If p e first c Done)) n refl refl refl (closers outer) (λ x y is. else_step p e first outer c x.place x.sign) ∙ h.1)
-closes (LoopOf p e outer) c n =
-    let h = closes outer (While p e c Done) n in
-    (h.0, same_within (Ended (LoopOf p e outer) c) (Ended outer (While p e c Done)) n refl refl refl (closers outer) (λ x y is. loop_step p e outer c x.place x.sign) ∙ h.1)
+    (h.0, same_within (Ended (ElseOf p e first outer) c) (Ended outer (If p e first c Done)) n refl refl refl refl (closers outer) (λ x y is. else_step p e first outer c x.place x.sign) ∙ h.1)
+closes (LoopOf start p e advance outer) c n =
+    let made : Code = followed start (While p e advance c Done) in
+    let h = closes outer made n in
+    (h.0, same_within (Ended (LoopOf start p e advance outer) c) (Ended outer made) n refl refl refl refl (closers outer) (λ x y is. loop_step start p e advance outer c x.place x.sign) ∙ h.1)
+
+-- the rest of a file within the limits
+abbrev pub Rest : ReadingState → ℕ → Type 0
+Rest state n = (tail : List Item) × (made : File) × (guarded state n tail ≡ Ok made)
+
+-- behind a change, where it stands
+after_change : (site : Site) (c : Code) (n : ℕ) → Rest (then_comes site c) n
+unfolding guarded
+after_change (AsStatement outer) c n = let h = closes outer c n in (closers outer, h.0, h.1)
+after_change (AsStart outer) c n =
+    let loop : Stack = LoopOf c nowhere (Number (pos 1)) Done outer in
+    let h = closes loop (Skip nowhere Done) 0 in
+    (at nowhere signs.Semicolon ∷ at nowhere signs.Close ∷ at nowhere signs.Semicolon ∷ closers loop, h.0, h.1)
+after_change (AsStep start p e outer) c n = let h = closes (LoopOf start p e c outer) (Skip nowhere Done) 0 in (at nowhere signs.Semicolon ∷ closers (LoopOf start p e c outer), h.0, h.1)
 
 record CanEnd (state : ReadingState) (n : ℕ) : Type 0 where
   pub tail : List Item
@@ -36,31 +52,45 @@ record CanEnd (state : ReadingState) (n : ℕ) : Type 0 where
   pub reads : guarded state n tail ≡ Ok made
   pub tight : (k : ℕ) → Loose k tail
 
+-- an expression with which a change ends
+ends_change : (u : Use) (e : Term) (site : Site) (c : Code) (n : ℕ) → n ≤ 64 → step (Has [] u e) nowhere (last_sign site) ≡ Some (then_comes site c) → CanEnd (Has [] u e) n
+ends_change u e (AsStatement outer) c n few is =
+    let h = after_change (AsStatement outer) c n in
+    record { tail = at nowhere signs.Semicolon ∷ h.0; made = h.1; reads = takes (Has [] u e) (Ended outer c) nowhere signs.Semicolon n n h.0 is refl refl few ∙ h.2; tight = λ k. tt }
+ends_change u e (AsStart outer) c n few is =
+    let h = after_change (AsStart outer) c n in
+    record { tail = at nowhere signs.Semicolon ∷ h.0; made = h.1; reads = takes (Has [] u e) (TestComes c outer) nowhere signs.Semicolon n n h.0 is refl refl few ∙ h.2; tight = λ k. tt }
+ends_change u e (AsStep start p t outer) c n few is =
+    let h = after_change (AsStep start p t outer) c n in
+    record { tail = at nowhere signs.Close ∷ h.0; made = h.1; reads = takes (Has [] u e) (Ready (LoopOf start p t c outer)) nowhere signs.Close n n h.0 is refl refl few ∙ h.2; tight = λ k. tt }
+
 ends_use : (u : Use) (e : Term) (n : ℕ) → n ≤ 64 → CanEnd (Has [] u e) n
 unfolding guarded
-ends_use (ToAssign p x outer) e n few =
-    let h = closes outer (Assign p x e Done) n in
-    record { tail = at nowhere signs.Semicolon ∷ closers outer; made = h.0; reads = takes (Has [] (ToAssign p x outer) e) (Ended outer (Assign p x e Done)) nowhere signs.Semicolon n n (closers outer) refl refl refl few ∙ h.1; tight = λ k. tt }
+ends_use (ToAssign p x site) e n few = ends_change (ToAssign p x site) e site (Assign p x e Done) n few (assigned_there p nowhere x e site)
 ends_use (ToInitialise kind p x outer) e n few =
     let next : Stack = folded outer (Assign p x e Done) in
     let h = closes next (Skip nowhere Done) 0 in
     let text : List Item = at nowhere signs.Semicolon ∷ closers next in
     record { tail = at nowhere signs.Semicolon ∷ text; made = h.0; reads = takes (Has [] (ToInitialise kind p x outer) e) (Ready next) nowhere signs.Semicolon n n text refl refl refl few ∙ h.1; tight = λ k. tt }
-ends_use (ToUpdate p x u outer) e n few =
-    let h = closes outer (updated p x u e) n in
-    record { tail = at nowhere signs.Semicolon ∷ closers outer; made = h.0; reads = takes (Has [] (ToUpdate p x u outer) e) (Ended outer (updated p x u e)) nowhere signs.Semicolon n n (closers outer) refl refl refl few ∙ h.1; tight = λ k. tt }
+ends_use (ToUpdate p x u site) e n few = ends_change (ToUpdate p x u site) e site (updated p x u e) n few (updated_there p nowhere x u e site)
 ends_use (ToAssert p outer) e n few =
     let h = closes outer (Assert p e Done) 0 in
     let text : List Item = at nowhere signs.Semicolon ∷ closers outer in
-    record { tail = at nowhere signs.Close ∷ text; made = h.0; reads = takes (Has [] (ToAssert p outer) e) (Finishing (OfStatement outer (Assert p e Done))) nowhere signs.Close n n text refl refl refl few ∙ h.1; tight = λ k. tt }
+    record { tail = at nowhere signs.Close ∷ text; made = h.0; reads = takes (Has [] (ToAssert p outer) e) (Finishing (OfStatement (AsStatement outer) (Assert p e Done))) nowhere signs.Close n n text refl refl refl few ∙ h.1; tight = λ k. tt }
 ends_use (ToChoose p outer) e n few =
     let h = closes (ThenOf p e outer) (Skip nowhere Done) 0 in
     let text : List Item = at nowhere signs.Semicolon ∷ closers (ThenOf p e outer) in
     record { tail = at nowhere signs.Close ∷ text; made = h.0; reads = takes (Has [] (ToChoose p outer) e) (Ready (ThenOf p e outer)) nowhere signs.Close n n text refl refl refl few ∙ h.1; tight = λ k. tt }
 ends_use (ToLoop p outer) e n few =
-    let h = closes (LoopOf p e outer) (Skip nowhere Done) 0 in
-    let text : List Item = at nowhere signs.Semicolon ∷ closers (LoopOf p e outer) in
-    record { tail = at nowhere signs.Close ∷ text; made = h.0; reads = takes (Has [] (ToLoop p outer) e) (Ready (LoopOf p e outer)) nowhere signs.Close n n text refl refl refl few ∙ h.1; tight = λ k. tt }
+    let loop : Stack = LoopOf Done p e Done outer in
+    let h = closes loop (Skip nowhere Done) 0 in
+    let text : List Item = at nowhere signs.Semicolon ∷ closers loop in
+    record { tail = at nowhere signs.Close ∷ text; made = h.0; reads = takes (Has [] (ToLoop p outer) e) (Ready loop) nowhere signs.Close n n text refl refl refl few ∙ h.1; tight = λ k. tt }
+ends_use (ToRepeat start p outer) e n few =
+    let loop : Stack = LoopOf start p e Done outer in
+    let h = closes loop (Skip nowhere Done) 0 in
+    let text : List Item = at nowhere signs.Close ∷ at nowhere signs.Semicolon ∷ closers loop in
+    record { tail = at nowhere signs.Semicolon ∷ text; made = h.0; reads = takes (Has [] (ToRepeat start p outer) e) (StepComes start p e outer) nowhere signs.Semicolon n n text refl refl refl few ∙ h.1; tight = λ k. tt }
 
 ends_expr : (fs : List Frame) (u : Use) (e : Term) (n : ℕ) → n ≤ 64 → CanEnd (Has fs u e) n
 ends_expr [] u e n few = ends_use u e n few
@@ -69,14 +99,10 @@ ends_expr (Paren ∷ fs) u e n few =
     record { tail = at nowhere signs.Close ∷ h.tail; made = h.made; reads = takes (Has (Paren ∷ fs) u e) (Has fs u e) nowhere signs.Close n n h.tail refl refl refl few ∙ h.reads; tight = λ k. tt }
 ends_expr (Pre v ∷ fs) u e n few =
     let h = ends_expr fs u (applied v e) n few in
-    record { tail = h.tail; made = h.made; reads = same_within (Has (Pre v ∷ fs) u e) (Has fs u (applied v e)) n refl refl refl h.tail (λ x y is. pre_step v fs u e x.sign) ∙ h.reads; tight = h.tight }
+    record { tail = h.tail; made = h.made; reads = same_within (Has (Pre v ∷ fs) u e) (Has fs u (applied v e)) n refl refl refl refl h.tail (λ x y is. pre_step v fs u e x.sign) ∙ h.reads; tight = h.tight }
 ends_expr (Left op a ∷ fs) u e n few =
     let h = ends_expr fs u (Binary op a e) n few in
-    record { tail = h.tail; made = h.made; reads = same_within (Has (Left op a ∷ fs) u e) (Has fs u (Binary op a e)) n refl refl refl h.tail (λ x y is. left_step op a fs u e x.sign (subst (Loose (suc (tighter op))) is (h.tight (suc (tighter op))))) ∙ h.reads; tight = h.tight }
-
--- the rest of a file within the limits
-abbrev pub Rest : ReadingState → ℕ → Type 0
-Rest state n = (tail : List Item) × (made : File) × (guarded state n tail ≡ Ok made)
+    record { tail = h.tail; made = h.made; reads = same_within (Has (Left op a ∷ fs) u e) (Has fs u (Binary op a e)) n refl refl refl refl h.tail (λ x y is. left_step op a fs u e x.sign (subst (Loose (suc (tighter op))) is (h.tight (suc (tighter op))))) ∙ h.reads; tight = h.tight }
 
 after_declarations : (secs : Sections) (ds : List Declared) (n : ℕ) → Rest (Outside secs ds) n
 unfolding guarded
@@ -104,7 +130,9 @@ after_declarator (Counted last) x i secs ds n = let h = after_declarations secs 
 -- behind a statement or a declarator in `main`
 closes_pending : (made : Pending) (n : ℕ) → Rest (Finishing made) n
 unfolding guarded
-closes_pending (OfStatement outer c) n = let h = closes outer c 0 in (at nowhere signs.Semicolon ∷ closers outer, h.0, h.1)
+closes_pending (OfStatement (AsStatement outer) c) n = let h = after_change (AsStatement outer) c 0 in (at nowhere signs.Semicolon ∷ h.0, h.1, h.2)
+closes_pending (OfStatement (AsStart outer) c) n = let h = after_change (AsStart outer) c 0 in (at nowhere signs.Semicolon ∷ h.0, h.1, h.2)
+closes_pending (OfStatement (AsStep start p e outer) c) n = let h = after_change (AsStep start p e outer) c 0 in (at nowhere signs.Close ∷ h.0, h.1, h.2)
 closes_pending (OfLocal kind outer c) n = let h = closes (folded outer c) (Skip nowhere Done) 0 in (at nowhere signs.Semicolon ∷ at nowhere signs.Semicolon ∷ closers (folded outer c), h.0, h.1)
 
 -- behind the name of a declarator in `main`
@@ -152,9 +180,13 @@ goes_on_within (LocalNamed kind p x outer) n few = after_name kind p x outer n
 goes_on_within (Ended outer c) n few = let h = closes outer c n in (closers outer, h.0, h.1)
 goes_on_within (Wants fs u) n few = let h = ends_expr fs u (Var 0) n few in (at nowhere (signs.Name 0) ∷ h.tail, h.made, takes (Wants fs u) (Has fs u (Var 0)) nowhere (signs.Name 0) n n h.tail refl refl refl few ∙ h.reads)
 goes_on_within (Has fs u e) n few = let h = ends_expr fs u e n few in (h.tail, h.made, h.reads)
-goes_on_within (Counting p u outer) n few = let h = closes outer (changed_by_one p 0 u) 0 in (at nowhere (signs.Name 0) ∷ at nowhere signs.Semicolon ∷ closers outer, h.0, h.1)
-goes_on_within (Named p x outer) n few = let h = closes outer (Assign p x (Var 0) Done) 0 in (at nowhere signs.Equals ∷ at nowhere (signs.Name 0) ∷ at nowhere signs.Semicolon ∷ closers outer, h.0, h.1)
+goes_on_within (Counting p u site) n few = let h = closes_pending (OfStatement site (changed_by_one p 0 u)) 0 in (at nowhere (signs.Name 0) ∷ h.0, h.1, h.2)
+goes_on_within (Named p x site) n few = let h = closes_pending (OfStatement site (changed_by_one p x Raise)) 0 in (at nowhere signs.PlusPlus ∷ h.0, h.1, h.2)
 goes_on_within (Opens u) n few = let h = ends_use u (Var 0) 0 (omega arith) in (at nowhere signs.Open ∷ at nowhere (signs.Name 0) ∷ h.tail, h.made, h.reads)
+goes_on_within (ForOpens outer) n few = let h = after_change (AsStart outer) Done 0 in (at nowhere signs.Open ∷ at nowhere signs.Semicolon ∷ h.0, h.1, h.2)
+goes_on_within (StartComes outer) n few = let h = after_change (AsStart outer) Done 0 in (at nowhere signs.Semicolon ∷ h.0, h.1, h.2)
+goes_on_within (TestComes start outer) n few = after_change (AsStart outer) start n
+goes_on_within (StepComes start p e outer) n few = let h = after_change (AsStep start p e outer) Done 0 in (at nowhere signs.Close ∷ h.0, h.1, h.2)
 goes_on_within (VoidComes p outer) n few = let h = closes outer (Skip p Done) 0 in (at nowhere signs.Void ∷ at nowhere signs.Close ∷ at nowhere signs.Input ∷ at nowhere signs.Open ∷ at nowhere signs.Close ∷ at nowhere signs.Semicolon ∷ closers outer, h.0, h.1)
 goes_on_within (VoidCloses p outer) n few = let h = closes outer (Skip p Done) 0 in (at nowhere signs.Close ∷ at nowhere signs.Input ∷ at nowhere signs.Open ∷ at nowhere signs.Close ∷ at nowhere signs.Semicolon ∷ closers outer, h.0, h.1)
 goes_on_within (CallComes p outer) n few = let h = closes outer (Skip p Done) 0 in (at nowhere signs.Input ∷ at nowhere signs.Open ∷ at nowhere signs.Close ∷ at nowhere signs.Semicolon ∷ closers outer, h.0, h.1)

@@ -9,7 +9,7 @@ use Rattle.c_tree.specs.Tree.{Code, Done, Assign, Input, Assert, If, While, Bloc
 use Rattle.c_tree.specs.Project.{IsNumbered, IsGuarded, IsConditioned}
 use Rattle.c_grammar.specs.declared.items.Item.{Item}
 use Rattle.c_grammar.specs.declared.items.Sign.TheVariants as signs
-use Rattle.c_grammar.specs.Grammar.{at, Qualifier, LocalDeclarator, uninitialised, initialised, from_call, Shape, Writes, none, more, choice, local, last_local, next_local, ends, otherwise, elif, assign, input, call, void_call, update, count, prefix_count, assert, skip, block, while, if_then, if_else, declared, Part, Outer, Vars, Later, Declares, nothing, variables, prototype, void_prototype, definition, section, last_var, next_var, end_part, else_part, elif_part, Returns, no_return, return, Body, body, Main, main, File, Forms, file, has_groups, whole_of}
+use Rattle.c_grammar.specs.Grammar.{at, Changes, assignment, input_taken, compound_assignment, count_behind, count_before, Clause, no_clause, clause, Qualifier, LocalDeclarator, uninitialised, initialised, from_call, Shape, Writes, none, more, choice, local, last_local, next_local, ends, otherwise, elif, change, call, void_call, assert, skip, block, while, for, if_then, if_else, declared, Part, Outer, Vars, Later, Declares, nothing, variables, prototype, void_prototype, definition, section, last_var, next_var, end_part, else_part, elif_part, Returns, no_return, return, Body, body, Main, main, File, Forms, file, has_groups, whole_of}
 use Rattle.c_grammar.specs.Facts.{AreConditionsOf, Conditioned}
 
 cut : (n : ℕ) (xs ys : List Item) → AreConditionsOf n (xs ++ ys) → AreConditionsOf n xs × AreConditionsOf n ys
@@ -22,7 +22,7 @@ followed_numbered n (Assign p x e rest) d h i = followed_numbered n rest d h i
 followed_numbered n (Input p x rest) d h i = followed_numbered n rest d h i
 followed_numbered n (Assert p e rest) d h i = followed_numbered n rest d h i
 followed_numbered n (If p e a b rest) d h i = (h.0, h.1, followed_numbered n rest d h.2 i)
-followed_numbered n (While p e a rest) d h i = (h.0, followed_numbered n rest d h.1 i)
+followed_numbered n (While p e a b rest) d h i = (h.0, h.1, followed_numbered n rest d h.2 i)
 followed_numbered n (Block p a rest) d h i = (h.0, followed_numbered n rest d h.1 i)
 followed_numbered n (Skip p rest) d h i = followed_numbered n rest d h i
 followed_numbered n (Cond m a b rest) d h i = (h.0, h.1, h.2, followed_numbered n rest d h.3 i)
@@ -31,6 +31,17 @@ local_numbered : {ts : List Item} {c : Code} {kind : Qualifier} (n : ℕ) → Lo
 local_numbered n (uninitialised p x) = tt
 local_numbered n (initialised p q x e) = tt
 local_numbered n (from_call p q r s t x g) = tt
+
+change_numbered : {ts : List Item} {c : Code} (n : ℕ) → Changes ts c → IsNumbered n c
+change_numbered n (assignment p q x e) = tt
+change_numbered n (input_taken p q r s t x g) = tt
+change_numbered n (compound_assignment p q x u e) = tt
+change_numbered n (count_behind p q x u) = tt
+change_numbered n (count_before p q x u) = tt
+
+clause_numbered : {ts : List Item} {c : Code} (n : ℕ) → Clause ts c → IsNumbered n c
+clause_numbered n no_clause = tt
+clause_numbered n (clause s) = change_numbered n s
 
 code_numbered : {s : Shape} {ts : List Item} {c : Code} (n : ℕ) → Writes s ts c → AreConditionsOf n ts → IsNumbered n c
 code_numbered n none h = tt
@@ -42,17 +53,17 @@ code_numbered n (next_local p {ts} {us} {c} {d} o v) h = followed_numbered n c d
 code_numbered n (ends p) h = tt
 code_numbered n (otherwise p q {ts} s) h = code_numbered n s (cut n ts (at q signs.GroupEnd ∷ []) h.1).0
 code_numbered n (elif p m {ts} {us} s t) h = let r = cut n ts us h.1 in (h.0, code_numbered n s r.0, code_numbered n t r.1, tt)
-code_numbered n (assign p q r x e) h = tt
-code_numbered n (input p q r s t u x g) h = tt
+code_numbered n (change r s) h = change_numbered n s
 code_numbered n (call p q r s g) h = tt
 code_numbered n (void_call p q r s t u v g) h = tt
-code_numbered n (update p q r x u e) h = tt
-code_numbered n (count p q r x u) h = tt
-code_numbered n (prefix_count p q r x u) h = tt
 code_numbered n (assert p q r s e) h = tt
 code_numbered n (skip p) h = tt
 code_numbered n (block p q {ts} s) h = (code_numbered n s (cut n ts (at q signs.RightBrace ∷ []) h.1).0, tt)
-code_numbered n (while p q r {b} {ts} {us} e s) h = (code_numbered n s (cut n ts (at r signs.Close ∷ us) h.1.1).1.1, tt)
+code_numbered n (while p q r {b} {ts} {us} e s) h = (tt, code_numbered n s (cut n ts (at r signs.Close ∷ us) h.1.1).1.1, tt)
+code_numbered n (for p q r z {b} {ts} {us} {vs} {ws} {start} {step = advance} {c} {t} {e} first middle last s) h =
+    let k = cut n us (vs ++ at z signs.Close ∷ ws) (cut n ts (at r signs.Semicolon ∷ (us ++ (vs ++ at z signs.Close ∷ ws))) h.1.1).1.1 in
+    let l = cut n vs (at z signs.Close ∷ ws) k.1 in
+    followed_numbered n start (While t e advance c Done) (clause_numbered n first) (clause_numbered n last, code_numbered n s l.1.1, tt)
 code_numbered n (if_then p q r {b} {ts} {us} e s) h = (code_numbered n s (cut n ts (at r signs.Close ∷ us) h.1.1).1.1, tt, tt)
 code_numbered n (if_else p q r z {b} {ts} {us} {vs} e s t) h =
     let k = cut n us (at z signs.Else ∷ vs) (cut n ts (at r signs.Close ∷ (us ++ at z signs.Else ∷ vs)) h.1.1).1.1 in

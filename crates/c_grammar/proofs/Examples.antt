@@ -4,7 +4,7 @@ use Rattle.fam_outer.specs.declared.faults.Place.{Place}
 use Rattle.c_tree.specs.declared.tree.Op.{Op}
 use Rattle.c_tree.specs.declared.tree.Op.TheVariants.{Add, Sub, Mul, Div, Rem, Lt, Le, Gt, Ge, Eq, Ne, And, Or}
 use Rattle.c_tree.specs.declared.lists.Guard.{Guard}
-use Rattle.c_tree.specs.Tree.{Number, Var, Neg, Not, Binary, Done, Assign, Input, Assert, If, Block, Skip, Cond}
+use Rattle.c_tree.specs.Tree.{Number, Var, Neg, Not, Binary, Done, Assign, Input, Assert, If, While, Block, Skip, Cond}
 use Rattle.c_grammar.specs.declared.items.Item.{Item}
 use Rattle.c_grammar.specs.declared.items.Sign.{Sign}
 use Rattle.c_grammar.specs.declared.items.Sign.TheVariants as signs
@@ -330,6 +330,76 @@ nearest_if_has_the_else : run start (items (head ++ signs.If ∷ signs.Open ∷ 
 unfolding run
 nearest_if_has_the_else = refl
 
+-- for ( ; ; ) ;: the test is 1, at the second semicolon
+abbrev endless : List Sign
+endless = signs.For ∷ signs.Open ∷ signs.Semicolon ∷ signs.Semicolon ∷ signs.Close ∷ []
+
+-- int main ( ) { for ( ; ; ) ; }
+loop_without_a_test : run start (items (head ++ (endless ++ signs.Semicolon ∷ signs.RightBrace ∷ []))) ≡ Ok (file_of [] (While (place 8) (Number (pos 1)) Done (Skip (place 10) Done) Done) (place 11))
+unfolding run
+loop_without_a_test = refl
+
+-- int main ( ) { for ( x = 0 ; x < 3 ; x ++ ) x = 1 ; }
+loop_with_a_step : run start (items (head ++ signs.For ∷ signs.Open ∷ signs.Name 0 ∷ signs.Equals ∷ signs.Number (pos 0) ∷ signs.Semicolon ∷ signs.Name 0 ∷ signs.Oper Lt ∷ signs.Number (pos 3) ∷ signs.Semicolon ∷ signs.Name 0 ∷ signs.PlusPlus ∷ signs.Close ∷ signs.Name 0 ∷ signs.Equals ∷ signs.Number (pos 1) ∷ signs.Semicolon ∷ signs.RightBrace ∷ []))
+    ≡ Ok (file_of [] (Assign (place 7) 0 (Number (pos 0)) (While (place 11) (Binary Lt (Var 0) (Number (pos 3))) (Assign (place 15) 0 (Binary Add (Var 0) (Number (pos 1))) Done) (Assign (place 18) 0 (Number (pos 1)) Done) Done)) (place 22))
+unfolding run
+loop_with_a_step = refl
+
+-- int main ( ) { for ( x = input ( ) ; - ( x ) ; y -= x + 2 ) { } for ( ++ x ; ; ) ; }
+loops_with_changes : run start (items (head ++ signs.For ∷ signs.Open ∷ signs.Name 0 ∷ signs.Equals ∷ signs.Input ∷ signs.Open ∷ signs.Close ∷ signs.Semicolon ∷ signs.Oper Sub ∷ signs.Open ∷ signs.Name 0 ∷ signs.Close ∷ signs.Semicolon
+    ∷ signs.Name 1 ∷ signs.MinusEquals ∷ signs.Name 0 ∷ signs.Oper Add ∷ signs.Number (pos 2) ∷ signs.Close ∷ signs.LeftBrace ∷ signs.RightBrace ∷ signs.For ∷ signs.Open ∷ signs.PlusPlus ∷ signs.Name 0 ∷ signs.Semicolon ∷ signs.Semicolon ∷ signs.Close ∷ signs.Semicolon ∷ signs.RightBrace ∷ []))
+    ≡ Ok (file_of [] (Input (place 7) 0 (While (place 13) (Neg (Var 0)) (Assign (place 18) 1 (Binary Sub (Var 1) (Binary Add (Var 0) (Number (pos 2)))) Done) (Block (place 24) Done Done) (Assign (place 28) 0 (Binary Add (Var 0) (Number (pos 1))) (While (place 31) (Number (pos 1)) Done (Skip (place 33) Done) Done)))) (place 34))
+unfolding run
+loops_with_changes = refl
+
+-- int main ( ) { for ( ; ; ) if ( x ) ; else ; }, and int main ( ) { if ( x ) for ( ; ; ) ; else ; }
+else_in_a_loop : run start (items (head ++ (endless ++ signs.If ∷ signs.Open ∷ signs.Name 0 ∷ signs.Close ∷ signs.Semicolon ∷ signs.Else ∷ signs.Semicolon ∷ signs.RightBrace ∷ [])))
+    ≡ Ok (file_of [] (While (place 8) (Number (pos 1)) Done (If (place 10) (Var 0) (Skip (place 14) Done) (Skip (place 16) Done) Done) Done) (place 17))
+unfolding run
+else_in_a_loop = refl
+
+else_behind_a_loop : run start (items (head ++ signs.If ∷ signs.Open ∷ signs.Name 0 ∷ signs.Close ∷ (endless ++ signs.Semicolon ∷ signs.Else ∷ signs.Semicolon ∷ signs.RightBrace ∷ [])))
+    ≡ Ok (file_of [] (If (place 5) (Var 0) (While (place 12) (Number (pos 1)) Done (Skip (place 14) Done) Done) (Skip (place 16) Done) Done) (place 17))
+unfolding run
+else_behind_a_loop = refl
+
+-- for ( int, for ( x = 1 , for ( x = 1 ), for ( ; x ), for ( ; ; x = 1 ;, for ( ; ; f, for ( #if 0, for ( ; #if 0 and for ( ; ; ) #if 0 in main: the last item is wrong
+declaration_in_a_loop : run start (items (head ++ signs.For ∷ signs.Open ∷ signs.Int ∷ [])) ≡ Err 1
+unfolding run
+declaration_in_a_loop = refl
+
+comma_in_a_loop : run start (items (head ++ signs.For ∷ signs.Open ∷ signs.Name 0 ∷ signs.Equals ∷ signs.Number (pos 1) ∷ signs.Comma ∷ [])) ≡ Err 1
+unfolding run
+comma_in_a_loop = refl
+
+loop_closed_behind_its_start : run start (items (head ++ signs.For ∷ signs.Open ∷ signs.Name 0 ∷ signs.Equals ∷ signs.Number (pos 1) ∷ signs.Close ∷ [])) ≡ Err 1
+unfolding run
+loop_closed_behind_its_start = refl
+
+loop_closed_behind_its_test : run start (items (head ++ signs.For ∷ signs.Open ∷ signs.Semicolon ∷ signs.Name 0 ∷ signs.Close ∷ [])) ≡ Err 1
+unfolding run
+loop_closed_behind_its_test = refl
+
+semicolon_behind_a_step : run start (items (head ++ signs.For ∷ signs.Open ∷ signs.Semicolon ∷ signs.Semicolon ∷ signs.Name 0 ∷ signs.Equals ∷ signs.Number (pos 1) ∷ signs.Semicolon ∷ [])) ≡ Err 1
+unfolding run
+semicolon_behind_a_step = refl
+
+call_as_a_step : run start (items (head ++ signs.For ∷ signs.Open ∷ signs.Semicolon ∷ signs.Semicolon ∷ signs.Function 0 ∷ [])) ≡ Err 1
+unfolding run
+call_as_a_step = refl
+
+group_in_a_loop : run start (items (head ++ signs.For ∷ signs.Open ∷ signs.GroupIf 0 ∷ [])) ≡ Err 1
+unfolding run
+group_in_a_loop = refl
+
+group_before_a_test : run start (items (head ++ signs.For ∷ signs.Open ∷ signs.Semicolon ∷ signs.GroupIf 0 ∷ [])) ≡ Err 1
+unfolding run
+group_before_a_test = refl
+
+group_as_a_body : run start (items (head ++ (endless ++ signs.GroupIf 0 ∷ []))) ≡ Err 1
+unfolding run
+group_as_a_body = refl
+
 -- int main ( ) { #if 0 ; #elif 1 #else ; #endif }, and #if 2 #endif behind it
 in_groups : List Sign
 in_groups = head ++ signs.GroupIf 0 ∷ signs.Semicolon ∷ signs.GroupElif 1 ∷ signs.GroupElse ∷ signs.Semicolon ∷ signs.GroupEnd ∷ signs.RightBrace ∷ signs.GroupIf 2 ∷ signs.GroupEnd ∷ []
@@ -379,3 +449,12 @@ enough_operators = refl
 enough_blocks : guarded start 0 (items (head ++ in_front 64 signs.LeftBrace [])) ≡ Err (Wrong 0)
 unfolding guarded in_front
 enough_blocks = refl
+
+-- the test of a for has its own operators
+one_more_in_a_test : guarded start 0 (items (head ++ signs.For ∷ signs.Open ∷ signs.Semicolon ∷ in_front 65 (signs.Oper Sub) (signs.Name 0 ∷ []))) ≡ Err (Deep 2)
+unfolding guarded in_front
+one_more_in_a_test = refl
+
+enough_in_a_test : guarded start 0 (items (head ++ signs.For ∷ signs.Open ∷ signs.Name 0 ∷ signs.Equals ∷ signs.Bang ∷ signs.Name 0 ∷ signs.Semicolon ∷ in_front 64 (signs.Oper Sub) (signs.Name 0 ∷ []))) ≡ Err (Wrong 0)
+unfolding guarded in_front
+enough_in_a_test = refl

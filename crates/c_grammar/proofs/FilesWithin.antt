@@ -70,13 +70,13 @@ const_name_same words secs es p (signs.Name x) h = refl
 const_name_same words secs es p _ h = absurd h
 
 behind_type_then : (words : TypeWords) (secs : Sections) (es : List Declared) (w : List Item) → NameFirst w → guarded (AfterType NoWord words secs es) 0 w ≡ guarded (Declaring Unqualified secs es) 0 w
-behind_type_then words secs es w h = same_within (AfterType NoWord words secs es) (Declaring Unqualified secs es) 0 refl refl refl w (λ x v is. name_same words secs es x.place x.sign (name_at w x v is h))
+behind_type_then words secs es w h = same_within (AfterType NoWord words secs es) (Declaring Unqualified secs es) 0 refl refl refl refl w (λ x v is. name_same words secs es x.place x.sign (name_at w x v is h))
 
 behind_static_then : (words : TypeWords) (secs : Sections) (es : List Declared) (w : List Item) → NameFirst w → guarded (AfterType StaticWord words secs es) 0 w ≡ guarded (Declaring Unqualified secs es) 0 w
-behind_static_then words secs es w h = same_within (AfterType StaticWord words secs es) (Declaring Unqualified secs es) 0 refl refl refl w (λ x v is. static_name_same words secs es x.place x.sign (name_at w x v is h))
+behind_static_then words secs es w h = same_within (AfterType StaticWord words secs es) (Declaring Unqualified secs es) 0 refl refl refl refl w (λ x v is. static_name_same words secs es x.place x.sign (name_at w x v is h))
 
 behind_const_then : (words : TypeWords) (secs : Sections) (es : List Declared) (w : List Item) → NameFirst w → guarded (AfterType ConstWord words secs es) 0 w ≡ guarded (Declaring Constant secs es) 0 w
-behind_const_then words secs es w h = same_within (AfterType ConstWord words secs es) (Declaring Constant secs es) 0 refl refl refl w (λ x v is. const_name_same words secs es x.place x.sign (name_at w x v is h))
+behind_const_then words secs es w h = same_within (AfterType ConstWord words secs es) (Declaring Constant secs es) 0 refl refl refl refl w (λ x v is. const_name_same words secs es x.place x.sign (name_at w x v is h))
 
 pub begins_then : {us : List Item} {kind : Qualifier} (secs : Sections) (es : List Declared) (w : List Item) → Begins signs.Static kind us → NameFirst w → guarded (Outside secs es) 0 (us ++ w) ≡ guarded (Declaring kind secs es) 0 w
 begins_then secs es w (only_type s (unqualified y)) h = typed_then NoWord secs es w y ∙ behind_type_then (words_of y) secs es w h
@@ -156,7 +156,7 @@ declarator secs es p s next w is same plain (counted q x last lt) =
 listed_within : (kind : Qualifier) (n : ℤ) (secs : Sections) (es : List Declared) (w : List Item) → NameFirst w → guarded (listed kind n secs es) 0 w ≡ guarded (Declaring (behind kind n) secs es) 0 w
 listed_within Unqualified n secs es w h = refl
 listed_within Constant n secs es w h = refl
-listed_within (Counted last) n secs es w h = same_within (Listing n secs es) (Declaring (Counted n) secs es) 0 refl refl refl w (λ x v is. listed_name n secs es x.place x.sign (name_at w x v is h))
+listed_within (Counted last) n secs es w h = same_within (Listing n secs es) (Declaring (Counted n) secs es) 0 refl refl refl refl w (λ x v is. listed_name n secs es x.place x.sign (name_at w x v is h))
 
 pub at_comma : {us : List Item} {x : ℕ} {n : ℤ} {kind : Qualifier} (p : Place) (secs : Sections) (es : List Declared) (w : List Item) → NameFirst w → Declarator kind us x n → guarded (Declaring kind secs es) 0 (us ++ at p signs.Comma ∷ w) ≡ guarded (Declaring (behind kind n) secs (with_declared secs es x n)) 0 w
 at_comma {x = x} {n = n} {kind = kind} p secs es w h d = declarator secs es p signs.Comma (listed kind n secs (with_declared secs es x n)) w refl tt refl d ∙ listed_within kind n secs (with_declared secs es x n) w h

@@ -14,7 +14,7 @@ use Rattle.c_tree.specs.Whole.{IsDeclaredOf}
 use Rattle.c_grammar.specs.declared.items.Item.{Item}
 use Rattle.c_grammar.specs.declared.items.Sign.{Sign}
 use Rattle.c_grammar.specs.declared.items.Sign.TheVariants as signs
-use Rattle.c_grammar.specs.Grammar.{at, Prefix, Positive, Negative, Inverse, applied, Expresses, number, name, group, prefix, loose, binary, LocalDeclarator, uninitialised, initialised, from_call, Shape, Writes, none, more, choice, local, last_local, next_local, ends, otherwise, elif, assign, input, call, void_call, update, count, prefix_count, assert, skip, block, while, if_then, if_else, Qualifier, Unqualified, Constant, Counted, behind, unqualified, const_before, const_behind, Begins, only_type, then_type, enumeration, Declarator, bare, positive, negative, counted, Defines, defined, negative_defined, enclosed, negative_enclosed, declared, Part, Outer, Vars, Later, Declares, nothing, variables, prototype, void_prototype, definition, section, last_var, next_var, end_part, else_part, elif_part, Returns, no_return, return, Body, body, Main, main, File, Forms, file, has_groups, zeros}
+use Rattle.c_grammar.specs.Grammar.{at, Prefix, Positive, Negative, Inverse, applied, Expresses, number, name, group, prefix, loose, binary, Changes, assignment, input_taken, compound_assignment, count_behind, count_before, Clause, no_clause, clause, Tests, no_test, test, LocalDeclarator, uninitialised, initialised, from_call, Shape, Writes, none, more, choice, local, last_local, next_local, ends, otherwise, elif, change, call, void_call, assert, skip, block, while, for, if_then, if_else, Qualifier, Unqualified, Constant, Counted, behind, unqualified, const_before, const_behind, Begins, only_type, then_type, enumeration, Declarator, bare, positive, negative, counted, Defines, defined, negative_defined, enclosed, negative_enclosed, declared, Part, Outer, Vars, Later, Declares, nothing, variables, prototype, void_prototype, definition, section, last_var, next_var, end_part, else_part, elif_part, Returns, no_return, return, Body, body, Main, main, File, Forms, file, has_groups, zeros}
 use Rattle.c_grammar.specs.Facts.{AreFit, WellFormed, PlainWithoutGroups}
 use Rattle.c_tree.proofs.Starts.{length-start, ints-start}
 use Rattle.c_grammar.proofs.Keeping.{no_groups}
@@ -48,7 +48,7 @@ followed_fits n (Assign p x e rest) d h i = (h.0, h.1, followed_fits n rest d h.
 followed_fits n (Input p x rest) d h i = (h.0, followed_fits n rest d h.1 i)
 followed_fits n (Assert p e rest) d h i = (h.0, followed_fits n rest d h.1 i)
 followed_fits n (If p e a b rest) d h i = (h.0, h.1, h.2, followed_fits n rest d h.3 i)
-followed_fits n (While p e a rest) d h i = (h.0, h.1, followed_fits n rest d h.2 i)
+followed_fits n (While p e a b rest) d h i = (h.0, h.1, h.2, followed_fits n rest d h.3 i)
 followed_fits n (Block p a rest) d h i = (h.0, followed_fits n rest d h.1 i)
 followed_fits n (Skip p rest) d h i = followed_fits n rest d h i
 followed_fits n (Cond m a b rest) d h i = (h.0, h.1, followed_fits n rest d h.2 i)
@@ -57,6 +57,21 @@ local_fits : {ts : List Item} {c : Code} {kind : Qualifier} (n : ℕ) → LocalD
 local_fits n (uninitialised p x) h = (h.0, tt)
 local_fits n (initialised p q x e) h = (h.0, term_fits n e h.1.1, tt)
 local_fits n (from_call p q r s t x g) h = (h.0, tt)
+
+change_fits : {ts : List Item} {c : Code} (n : ℕ) → Changes ts c → AreFit n ts → IsCodeOf n c
+change_fits n (assignment p q x e) h = (h.0, term_fits n e h.1.1, tt)
+change_fits n (input_taken p q r s t x g) h = (h.0, tt)
+change_fits n (compound_assignment p q x u e) h = (h.0, (h.0, term_fits n e h.1.1), tt)
+change_fits n (count_behind p q x u) h = (h.0, (h.0, (omega (arith, ints), omega (arith, ints))), tt)
+change_fits n (count_before p q x u) h = (h.1.0, (h.1.0, (omega (arith, ints), omega (arith, ints))), tt)
+
+clause_fits : {ts : List Item} {c : Code} (n : ℕ) → Clause ts c → AreFit n ts → IsCodeOf n c
+clause_fits n no_clause h = tt
+clause_fits n (clause s) h = change_fits n s h
+
+test_fits : {ts : List Item} {p : Place} {e : Term} (n : ℕ) → Tests ts p e → AreFit n ts → IsTermOf n e
+test_fits n (no_test z) h = (omega (arith, ints), omega (arith, ints))
+test_fits n (test z {x} {ts} s) h = term_fits n s (fit_split n (x ∷ ts) (at z signs.Semicolon ∷ []) h).0
 
 code_fits : {s : Shape} {ts : List Item} {c : Code} (n : ℕ) → Writes s ts c → AreFit n ts → IsCodeOf n c
 code_fits n none h = tt
@@ -68,17 +83,18 @@ code_fits n (next_local p {ts} {us} {c} {d} o v) h = let k = fit_split n ts (at 
 code_fits n (ends p) h = tt
 code_fits n (otherwise p q {ts} s) h = code_fits n s (fit_split n ts (at q signs.GroupEnd ∷ []) h.1).0
 code_fits n (elif p m {ts} {us} s t) h = let r = fit_split n ts us h.1 in (code_fits n s r.0, code_fits n t r.1, tt)
-code_fits n (assign p q r x {ts} e) h = (h.0, term_fits n e (fit_split n ts (at r signs.Semicolon ∷ []) h.1.1).0, tt)
-code_fits n (input p q r s t u x g) h = (h.0, tt)
+code_fits n (change r {ts} s) h = change_fits n s (fit_split n ts (at r signs.Semicolon ∷ []) h).0
 code_fits n (call p q r s g) h = tt
 code_fits n (void_call p q r s t u v g) h = tt
-code_fits n (update p q r x u {ts} e) h = (h.0, (h.0, term_fits n e (fit_split n ts (at r signs.Semicolon ∷ []) h.1.1).0), tt)
-code_fits n (count p q r x u) h = (h.0, (h.0, (omega (arith, ints), omega (arith, ints))), tt)
-code_fits n (prefix_count p q r x u) h = (h.1.0, (h.1.0, (omega (arith, ints), omega (arith, ints))), tt)
 code_fits n (assert p q r s {ts} e) h = (term_fits n e (fit_split n ts (at r signs.Close ∷ at s signs.Semicolon ∷ []) h.1.1).0, tt)
 code_fits n (skip p) h = tt
 code_fits n (block p q {ts} s) h = (code_fits n s (fit_split n ts (at q signs.RightBrace ∷ []) h.1).0, tt)
-code_fits n (while p q r {b} {ts} {us} e s) h = let k = fit_split n ts (at r signs.Close ∷ us) h.1.1 in (term_fits n e k.0, code_fits n s k.1.1, tt)
+code_fits n (while p q r {b} {ts} {us} e s) h = let k = fit_split n ts (at r signs.Close ∷ us) h.1.1 in (term_fits n e k.0, tt, code_fits n s k.1.1, tt)
+code_fits n (for p q r z {b} {ts} {us} {vs} {ws} {start} {step = advance} {c} {t} {e} first middle last s) h =
+    let k = fit_split n ts (at r signs.Semicolon ∷ (us ++ (vs ++ at z signs.Close ∷ ws))) h.1.1 in
+    let l = fit_split n us (vs ++ at z signs.Close ∷ ws) k.1.1 in
+    let m = fit_split n vs (at z signs.Close ∷ ws) l.1 in
+    followed_fits n start (While t e advance c Done) (clause_fits n first k.0) (test_fits n middle l.0, clause_fits n last m.0, code_fits n s m.1.1, tt)
 code_fits n (if_then p q r {b} {ts} {us} e s) h = let k = fit_split n ts (at r signs.Close ∷ us) h.1.1 in (term_fits n e k.0, code_fits n s k.1.1, tt, tt)
 code_fits n (if_else p q r z {b} {ts} {us} {vs} e s t) h =
     let k = fit_split n ts (at r signs.Close ∷ (us ++ at z signs.Else ∷ vs)) h.1.1 in
@@ -163,7 +179,7 @@ followed_plain (Assign p x e rest) d h i = followed_plain rest d h i
 followed_plain (Input p x rest) d h i = followed_plain rest d h i
 followed_plain (Assert p e rest) d h i = followed_plain rest d h i
 followed_plain (If p e a b rest) d h i = (h.0, h.1, followed_plain rest d h.2 i)
-followed_plain (While p e a rest) d h i = (h.0, followed_plain rest d h.1 i)
+followed_plain (While p e a b rest) d h i = (h.0, h.1, followed_plain rest d h.2 i)
 followed_plain (Block p a rest) d h i = (h.0, followed_plain rest d h.1 i)
 followed_plain (Skip p rest) d h i = followed_plain rest d h i
 followed_plain (Cond m a b rest) d h i = absurd h
@@ -172,6 +188,17 @@ local_plain : {ts : List Item} {c : Code} {kind : Qualifier} → LocalDeclarator
 local_plain (uninitialised p x) = tt
 local_plain (initialised p q x e) = tt
 local_plain (from_call p q r s t x g) = tt
+
+change_plain : {ts : List Item} {c : Code} → Changes ts c → IsPlain c
+change_plain (assignment p q x e) = tt
+change_plain (input_taken p q r s t x g) = tt
+change_plain (compound_assignment p q x u e) = tt
+change_plain (count_behind p q x u) = tt
+change_plain (count_before p q x u) = tt
+
+clause_plain : {ts : List Item} {c : Code} → Clause ts c → IsPlain c
+clause_plain no_clause = tt
+clause_plain (clause s) = change_plain s
 
 code_plain : {s : Shape} {ts : List Item} {c : Code} → Writes s ts c → has_groups ts ≡ false → IsPlain c
 code_plain none h = tt
@@ -183,17 +210,16 @@ code_plain (next_local p {ts} {us} {c} {d} o v) h = followed_plain c d (local_pl
 code_plain (ends p) h = tt
 code_plain (otherwise p q s) h = absurd cc
 code_plain (elif p m s t) h = absurd cc
-code_plain (assign p q r x e) h = tt
-code_plain (input p q r s t u x g) h = tt
+code_plain (change r s) h = change_plain s
 code_plain (call p q r s g) h = tt
 code_plain (void_call p q r s t u v g) h = tt
-code_plain (update p q r x u e) h = tt
-code_plain (count p q r x u) h = tt
-code_plain (prefix_count p q r x u) h = tt
 code_plain (assert p q r s e) h = tt
 code_plain (skip p) h = tt
 code_plain (block p q {ts} s) h = (code_plain s (no_groups ts (at q signs.RightBrace ∷ []) h).0, tt)
-code_plain (while p q r {b} {ts} {us} e s) h = (code_plain s (no_groups ts (at r signs.Close ∷ us) h).1, tt)
+code_plain (while p q r {b} {ts} {us} e s) h = (tt, code_plain s (no_groups ts (at r signs.Close ∷ us) h).1, tt)
+code_plain (for p q r z {b} {ts} {us} {vs} {ws} {start} {step = advance} {c} {t} {e} first middle last s) h =
+    let k = no_groups us (vs ++ at z signs.Close ∷ ws) (no_groups ts (at r signs.Semicolon ∷ (us ++ (vs ++ at z signs.Close ∷ ws))) h).1 in
+    followed_plain start (While t e advance c Done) (clause_plain first) (clause_plain last, code_plain s (no_groups vs (at z signs.Close ∷ ws) k.1).1, tt)
 code_plain (if_then p q r {b} {ts} {us} e s) h = (code_plain s (no_groups ts (at r signs.Close ∷ us) h).1, tt, tt)
 code_plain (if_else p q r z {b} {ts} {us} {vs} e s t) h =
     let k = no_groups us (at z signs.Else ∷ vs) (no_groups ts (at r signs.Close ∷ (us ++ at z signs.Else ∷ vs)) h).1 in

@@ -13,8 +13,8 @@ use Rattle.c_tree.specs.Whole.{operators, nesting, IsSmall}
 use Rattle.c_grammar.specs.declared.items.Sign.{Sign}
 use Rattle.c_grammar.specs.declared.items.Sign.TheVariants as signs
 use Rattle.c_grammar.specs.declared.items.Item.{Item}
-use Rattle.c_grammar.specs.Grammar.{Count, tighter, Positive, Negative, Inverse, Qualifier, Unqualified, Constant, Counted, File}
-use Rattle.c_grammar.specs.Machine.{Frame, Paren, Pre, Left, Stack, Top, Braces, Yes, No, ThenOf, ElseOf, LoopOf, Use, ToAssign, ToInitialise, ToUpdate, ToAssert, ToChoose, ToLoop, Pending, OfStatement, OfLocal, Sections, Outermost, InPart, InLast, Aim, ToPrototype, ToMain, Tailing, Another, ReadingState, Outside, AfterStatic, AfterExtern, AfterConst, AfterEnum, AfterVoidType, AfterType, Leading, NoWord, StaticWord, ExternWord, ConstWord, TypeWords, OneInt, OneSigned, WholeType, Declaring, Bare, Starting, Negating, Started, Listing, Enumerated, AfterDefine, Defining, NegativeDefining, Enclosing, NegativeEnclosing, Enclosed, Parameters, InParameters, AfterVoid, AfterParameters, Ready, LocalConst, LocalType, NextLocal, LocalNamed, Ended, Wants, Has, Counting, Named, Opens, VoidComes, VoidCloses, CallComes, CallOpens, CallCloses, Finishing, Returning, Returned, Closing, Over, settle, input_of, want, tested, closed_by, assigned, ended_by, initialised, followed_by, have, folded, else_of, linked, opened, braced, returned, next_part, last_part, group_end, in_list, begin, on, named, counting, local_end, const_word, next_local, behind_local_type, local_type, without_initialiser, local_named, finishing, at_open, at_close, at_semicolon, at_void, at_function, at_void_function, next_condition, last_section, section_end, outside, behind_extern, behind_static, declaring, qualifying, main_of, first_word, naming, behind_type, after_type, after_enum, listed, declaration_end, enumeration_end, started, listing, counts_on, without_value, is_bare, starting, negating, after_define, defined_as, defining, negative_defining, enclosing, negative_enclosing, in_parameters, after_parameters, returning, closing, over, with_declared, step, finish, start}
+use Rattle.c_grammar.specs.Grammar.{Count, tighter, updated, Positive, Negative, Inverse, Qualifier, Unqualified, Constant, Counted, File}
+use Rattle.c_grammar.specs.Machine.{Frame, Paren, Pre, Left, Stack, Top, Braces, Yes, No, ThenOf, ElseOf, LoopOf, Site, AsStatement, AsStart, AsStep, Use, ToAssign, ToInitialise, ToUpdate, ToAssert, ToChoose, ToLoop, ToRepeat, Pending, OfStatement, OfLocal, Sections, Outermost, InPart, InLast, Aim, ToPrototype, ToMain, Tailing, Another, ReadingState, Outside, AfterStatic, AfterExtern, AfterConst, AfterEnum, AfterVoidType, AfterType, Leading, NoWord, StaticWord, ExternWord, ConstWord, TypeWords, OneInt, OneSigned, WholeType, Declaring, Bare, Starting, Negating, Started, Listing, Enumerated, AfterDefine, Defining, NegativeDefining, Enclosing, NegativeEnclosing, Enclosed, Parameters, InParameters, AfterVoid, AfterParameters, Ready, LocalConst, LocalType, NextLocal, LocalNamed, Ended, Wants, Has, Counting, Named, Opens, ForOpens, StartComes, TestComes, StepComes, VoidComes, VoidCloses, CallComes, CallOpens, CallCloses, Finishing, Returning, Returned, Closing, Over, settle, ended_change, closed_change, input_of, want, tested, closed_by, assigned, ended_by, initialised, followed_by, have, folded, else_of, linked, opened, braced, returned, next_part, last_part, group_end, in_list, begin, on, named, counting, changing, start_comes, test_comes, step_comes, local_end, const_word, next_local, behind_local_type, local_type, without_initialiser, local_named, finishing, at_open, at_close, at_semicolon, at_void, at_function, at_void_function, next_condition, last_section, section_end, outside, behind_extern, behind_static, declaring, qualifying, main_of, first_word, naming, behind_type, after_type, after_enum, listed, declaration_end, enumeration_end, started, listing, counts_on, without_value, is_bare, starting, negating, after_define, defined_as, defining, negative_defining, enclosing, negative_enclosing, in_parameters, after_parameters, returning, closing, over, with_declared, step, finish, start}
 use Rattle.c_grammar.specs.Deep.{depth, opens_more, is_nested, counted, is_long, is_deep, Fault, ended, went, guarded}
 
 max_parts : (a b k m : ℕ) → max a b + k ≤ m → (a + k ≤ m) × (b + k ≤ m)
@@ -45,10 +45,10 @@ fine_followed k (If p e a b rest) d h i =
     let m = max_parts (max (nesting a) (nesting b) + 1) (nesting rest) k 64 h.0 in
     let r = fine_followed k rest d (m.1, h.1.3) i in
     (max_both (max (nesting a) (nesting b) + 1) (nesting (followed rest d)) k 64 m.0 r.0, (h.1.0, h.1.1, h.1.2, r.1))
-fine_followed k (While p e a rest) d h i =
-    let m = max_parts (nesting a + 1) (nesting rest) k 64 h.0 in
-    let r = fine_followed k rest d (m.1, h.1.2) i in
-    (max_both (nesting a + 1) (nesting (followed rest d)) k 64 m.0 r.0, (h.1.0, h.1.1, r.1))
+fine_followed k (While p e a b rest) d h i =
+    let m = max_parts (max (nesting a) (nesting b) + 1) (nesting rest) k 64 h.0 in
+    let r = fine_followed k rest d (m.1, h.1.3) i in
+    (max_both (max (nesting a) (nesting b) + 1) (nesting (followed rest d)) k 64 m.0 r.0, (h.1.0, h.1.1, h.1.2, r.1))
 fine_followed k (Block p a rest) d h i =
     let m = max_parts (nesting a + 1) (nesting rest) k 64 h.0 in
     let r = fine_followed k rest d (m.1, h.1.1) i in
@@ -72,7 +72,7 @@ Fits (Yes links n made outer) = Fine (suc (length links) + depth outer) made × 
 Fits (No links n first made outer) = Fine (suc (length links) + depth outer) made × Fine (suc (length links) + depth outer) first × LinksFit links (depth outer) × Fits outer
 Fits (ThenOf p e outer) = (suc (depth outer) ≤ 64) × (operators e ≤ 64) × Fits outer
 Fits (ElseOf p e first outer) = Fine (suc (depth outer)) first × (operators e ≤ 64) × Fits outer
-Fits (LoopOf p e outer) = (suc (depth outer) ≤ 64) × (operators e ≤ 64) × Fits outer
+Fits (LoopOf start p e advance outer) = (suc (depth outer) ≤ 64) × (operators e ≤ 64) × Fine (depth outer) start × Fine (suc (depth outer)) advance × Fits outer
 
 depth_fits : (outer : Stack) → Fits outer → 0 + depth outer ≤ 64
 depth_fits (Top ds made) h = omega arith
@@ -81,7 +81,7 @@ depth_fits (Yes links n made outer) h = omega (arith, h.0.0)
 depth_fits (No links n first made outer) h = omega (arith, h.0.0)
 depth_fits (ThenOf p e outer) h = omega (arith, h.0)
 depth_fits (ElseOf p e first outer) h = omega (arith, h.0.0)
-depth_fits (LoopOf p e outer) h = omega (arith, h.0)
+depth_fits (LoopOf start p e advance outer) h = omega (arith, h.0)
 
 linked_fits : (links : List (ℕ × Code)) (d : ℕ) (c : Code) → LinksFit links d → Fine (length links + d) c → Fine d (linked links c)
 linked_fits [] d c h i = (omega (arith, i.0), i.1)
@@ -93,8 +93,8 @@ then_fine p e k c small h = (around_both (nesting c) 0 k h.0 (omega (arith, h.0)
 else_fine : (p : Place) (e : Term) (k : ℕ) (c d : Code) → operators e ≤ 64 → Fine (suc k) c → Fine (suc k) d → Fine k (If p e c d Done)
 else_fine p e k c d small h i = (around_both (nesting c) (nesting d) k h.0 i.0, (small, h.1, i.1, tt))
 
-loop_fine : (p : Place) (e : Term) (k : ℕ) (c : Code) → operators e ≤ 64 → Fine (suc k) c → Fine k (While p e c Done)
-loop_fine p e k c small h = (around_one (nesting c) k h.0, (small, h.1, tt))
+loop_fine : (start : Code) (p : Place) (e : Term) (advance : Code) (k : ℕ) (c : Code) → Fine k start → operators e ≤ 64 → Fine (suc k) advance → Fine (suc k) c → Fine k (followed start (While p e advance c Done))
+loop_fine start p e advance k c before small behind h = fine_followed k start (While p e advance c Done) before (around_both (nesting advance) (nesting c) k behind.0 h.0, (small, behind.1, h.1, tt))
 
 folded_fits : (outer : Stack) (c : Code) → Fits outer → Fine (depth outer) c → Fits (folded outer c)
 folded_fits (Top ds made) c h i = fine_followed 0 made c h i
@@ -103,7 +103,7 @@ folded_fits (Yes links n made outer) c h i = (fine_followed (suc (length links) 
 folded_fits (No links n first made outer) c h i = (fine_followed (suc (length links) + depth outer) made c h.0 i, h.1, h.2, h.3)
 folded_fits (ThenOf p e outer) c h i = folded_fits outer (If p e c Done Done) h.2 (then_fine p e (depth outer) c h.1 i)
 folded_fits (ElseOf p e first outer) c h i = folded_fits outer (If p e first c Done) h.2 (else_fine p e (depth outer) first c h.1 h.0 i)
-folded_fits (LoopOf p e outer) c h i = folded_fits outer (While p e c Done) h.2 (loop_fine p e (depth outer) c h.1 i)
+folded_fits (LoopOf start p e advance outer) c h i = folded_fits outer (followed start (While p e advance c Done)) h.4 (loop_fine start p e advance (depth outer) c h.2 h.1 h.3 i)
 
 weight : List Frame → ℕ
 weight [] = 0
@@ -111,16 +111,27 @@ weight (Paren ∷ fs) = weight fs
 weight (Pre u ∷ fs) = suc (weight fs)
 weight (Left op a ∷ fs) = suc (operators a) + weight fs
 
+-- a change stands in a statement, or in the parentheses of a `for`, which may stand there
+SiteFits : Site → Type 0
+SiteFits (AsStatement outer) = Fits outer
+SiteFits (AsStart outer) = (suc (depth outer) ≤ 64) × Fits outer
+SiteFits (AsStep start p e outer) = (suc (depth outer) ≤ 64) × (operators e ≤ 64) × Fine (depth outer) start × Fits outer
+
+-- a statement that holds no other
+IsFlat : Code → Type 0
+IsFlat c = (nesting c ≡ 0) × IsSmall c
+
 UseFits : Use → Type 0
-UseFits (ToAssign p x outer) = Fits outer
+UseFits (ToAssign p x site) = SiteFits site
 UseFits (ToInitialise kind p x outer) = Fits outer
-UseFits (ToUpdate p x u outer) = Fits outer
+UseFits (ToUpdate p x u site) = SiteFits site
 UseFits (ToAssert p outer) = Fits outer
 UseFits (ToChoose p outer) = (suc (depth outer) ≤ 64) × Fits outer
 UseFits (ToLoop p outer) = (suc (depth outer) ≤ 64) × Fits outer
+UseFits (ToRepeat start p outer) = (suc (depth outer) ≤ 64) × Fine (depth outer) start × Fits outer
 
 PendingFits : Pending → Type 0
-PendingFits (OfStatement outer c) = Fits outer × Fine (depth outer) c
+PendingFits (OfStatement site c) = SiteFits site × IsFlat c
 PendingFits (OfLocal kind outer c) = Fits outer × Fine (depth outer) c
 
 StateFits : ReadingState → ℕ → Type 0
@@ -132,9 +143,13 @@ StateFits (LocalNamed kind p x outer) k = Fits outer
 StateFits (Ended outer c) k = Fits outer × Fine (depth outer) c
 StateFits (Wants fs u) k = UseFits u × (weight fs ≤ k) × (k ≤ 64)
 StateFits (Has fs u e) k = UseFits u × (weight fs + operators e ≤ k) × (k ≤ 64)
-StateFits (Counting p u outer) k = Fits outer
-StateFits (Named p x outer) k = Fits outer
+StateFits (Counting p u site) k = SiteFits site
+StateFits (Named p x site) k = SiteFits site
 StateFits (Opens u) k = UseFits u
+StateFits (ForOpens outer) k = (suc (depth outer) ≤ 64) × Fits outer
+StateFits (StartComes outer) k = (suc (depth outer) ≤ 64) × Fits outer
+StateFits (TestComes start outer) k = (suc (depth outer) ≤ 64) × Fine (depth outer) start × Fits outer
+StateFits (StepComes start p e outer) k = (suc (depth outer) ≤ 64) × (operators e ≤ 64) × Fine (depth outer) start × Fits outer
 StateFits (VoidComes p outer) k = Fits outer
 StateFits (VoidCloses p outer) k = Fits outer
 StateFits (CallComes p outer) k = Fits outer
@@ -157,7 +172,7 @@ opened_fits n k (Yes links m made outer) lt h = ((omega arith, tt), tt, h)
 opened_fits n k (No links m first made outer) lt h = ((omega arith, tt), tt, h)
 opened_fits n k (ThenOf p e outer) lt h = tt
 opened_fits n k (ElseOf p e first outer) lt h = tt
-opened_fits n k (LoopOf p e outer) lt h = tt
+opened_fits n k (LoopOf _ p e advance outer) lt h = tt
 
 braced_fits : (q : Place) (k : ℕ) (outer : Stack) → Fits outer → IfSome (braced outer q) (λ next. StateFits next k)
 unfolding StateFits
@@ -193,17 +208,17 @@ list_fits (Yes links n made outer) next k h = h
 list_fits (No links n first made outer) next k h = h
 list_fits (ThenOf p e outer) next k h = tt
 list_fits (ElseOf p e first outer) next k h = tt
-list_fits (LoopOf p e outer) next k h = tt
+list_fits (LoopOf _ p e advance outer) next k h = tt
 
 begin_fits : (outer : Stack) (p : Place) (s : Sign) (k : ℕ) → (opens_more s && leb 64 (depth outer)) ≡ false → Fits outer → IfSome (begin outer p s) (λ next. StateFits next k)
-unfolding StateFits UseFits PendingFits
+unfolding StateFits SiteFits IsFlat UseFits PendingFits
 begin_fits outer p (signs.Name x) k l h = h
 begin_fits outer p signs.Const k l h = list_fits outer (LocalConst outer) k h
 begin_fits outer p signs.Int k l h = list_fits outer (LocalType Unqualified OneInt outer) k h
 begin_fits outer p signs.Int32 k l h = list_fits outer (LocalType Unqualified WholeType outer) k h
 begin_fits outer p signs.Signed k l h = list_fits outer (LocalType Unqualified OneSigned outer) k h
-begin_fits outer p signs.Input k l h = (h, (depth_fits outer h, tt))
-begin_fits outer p (signs.Function n) k l h = (h, (depth_fits outer h, tt))
+begin_fits outer p signs.Input k l h = (h, (refl, tt))
+begin_fits outer p (signs.Function n) k l h = (h, (refl, tt))
 begin_fits outer p signs.Open k l h = h
 begin_fits outer p signs.Semicolon k l h = (h, (depth_fits outer h, tt))
 begin_fits outer p signs.PlusPlus k l h = h
@@ -213,6 +228,7 @@ begin_fits outer p signs.RightBrace k l h = braced_fits p k outer h
 begin_fits outer p signs.Assert k l h = h
 begin_fits outer p signs.If k l h = (leb-false 64 (depth outer) l, h)
 begin_fits outer p signs.While k l h = (leb-false 64 (depth outer) l, h)
+begin_fits outer p signs.For k l h = (leb-false 64 (depth outer) l, h)
 begin_fits outer p signs.Return k l h = returned_fits p k outer h
 begin_fits outer p (signs.GroupIf n) k l h = opened_fits n k outer (leb-false 64 (depth outer) l) h
 begin_fits outer p (signs.GroupElif n) k l h = next_fits n k outer (leb-false 64 (depth outer) l) h
@@ -228,7 +244,7 @@ else_fits (Yes links n made outer) c k h i = tt
 else_fits (No links n first made outer) c k h i = tt
 else_fits (ThenOf p e outer) c k h i = (i, h.1, h.2)
 else_fits (ElseOf p e first outer) c k h i = else_fits outer (If p e first c Done) k h.2 (else_fine p e (depth outer) first c h.1 h.0 i)
-else_fits (LoopOf p e outer) c k h i = else_fits outer (While p e c Done) k h.2 (loop_fine p e (depth outer) c h.1 i)
+else_fits (LoopOf start p e advance outer) c k h i = else_fits outer (followed start (While p e advance c Done)) k h.4 (loop_fine start p e advance (depth outer) c h.2 h.1 h.3 i)
 
 on_fits : (outer : Stack) (c : Code) (p : Place) (s : Sign) (k : ℕ) → (opens_more s && leb 64 (depth (folded outer c))) ≡ false → Fits outer → Fine (depth outer) c → IfSome (on outer c p s) (λ next. StateFits next k)
 on_fits outer c p signs.Else k l h i = else_fits outer c k h i
@@ -253,9 +269,22 @@ prefix_fits fs u Add k h w l = (h, omega arith, l)
 prefix_fits fs u Sub k h w l = (h, omega arith, l)
 prefix_fits fs u _ k h w l = tt
 
+-- the end of a change
+ended_change_fits : (site : Site) (c : Code) (k : ℕ) → SiteFits site → IsFlat c → IfSome (ended_change site c) (λ next. StateFits next k)
+unfolding StateFits SiteFits IsFlat
+ended_change_fits (AsStatement outer) c k h i = (h, (omega (arith, i.0, depth_fits outer h), i.1))
+ended_change_fits (AsStart outer) c k h i = (h.0, (omega (arith, i.0, depth_fits outer h.1), i.1), h.1)
+ended_change_fits (AsStep _ p e outer) c k h i = tt
+
+closed_change_fits : (site : Site) (c : Code) (k : ℕ) → SiteFits site → IsFlat c → IfSome (closed_change site c) (λ next. StateFits next k)
+unfolding StateFits SiteFits IsFlat
+closed_change_fits (AsStatement outer) c k h i = tt
+closed_change_fits (AsStart outer) c k h i = tt
+closed_change_fits (AsStep start p e outer) c k h i = (h.0, h.1, h.2, (omega (arith, i.0, h.0), i.1), h.3)
+
 input_fits : (fs : List Frame) (u : Use) (k : ℕ) → UseFits u → IfSome (input_of fs u) (λ next. StateFits next k)
-unfolding StateFits UseFits PendingFits
-input_fits [] (ToAssign p x outer) k h = (h, (depth_fits outer h, tt))
+unfolding StateFits IsFlat UseFits PendingFits
+input_fits [] (ToAssign p x site) k h = (h, (refl, tt))
 input_fits [] (ToInitialise kind p x outer) k h = (h, (depth_fits outer h, tt))
 input_fits _ _ k h = tt
 
@@ -271,13 +300,14 @@ want_fits fs u p (signs.Function n) k l h = input_fits fs u k h.0
 want_fits fs u p _ k l h = tt
 
 tested_fits : (u : Use) (e : Term) (k : ℕ) → UseFits u → operators e ≤ 64 → IfSome (tested u e) (λ next. StateFits next k)
-unfolding StateFits UseFits PendingFits
-tested_fits (ToAssign p x outer) e k h w = tt
+unfolding StateFits SiteFits IsFlat UseFits PendingFits
+tested_fits (ToAssign p x site) e k h w = closed_change_fits site (Assign p x e Done) k h (refl, (omega arith, tt))
 tested_fits (ToInitialise kind p x outer) e k h w = tt
-tested_fits (ToUpdate p x u outer) e k h w = tt
-tested_fits (ToAssert p outer) e k h w = (h, (depth_fits outer h, (w, tt)))
+tested_fits (ToUpdate p x u site) e k h w = closed_change_fits site (updated p x u e) k h (refl, (omega arith, tt))
+tested_fits (ToAssert p outer) e k h w = (h, (refl, (w, tt)))
 tested_fits (ToChoose p outer) e k h w = (h.0, w, h.1)
-tested_fits (ToLoop p outer) e k h w = (h.0, w, h.1)
+tested_fits (ToLoop p outer) e k h w = (h.0, w, (depth_fits outer h.1, tt), (omega (arith, h.0), tt), h.1)
+tested_fits (ToRepeat _ p outer) e k h w = tt
 
 closed_fits : (fs : List Frame) (u : Use) (e : Term) (k : ℕ) → UseFits u → weight fs + operators e ≤ k → k ≤ 64 → IfSome (closed_by fs u e) (λ next. StateFits next k)
 unfolding StateFits weight
@@ -287,13 +317,14 @@ closed_fits (Pre v ∷ fs) u e k h w l = tt
 closed_fits (Left op a ∷ fs) u e k h w l = tt
 
 assigned_fits : (u : Use) (e : Term) (k : ℕ) → UseFits u → operators e ≤ 64 → IfSome (assigned u e) (λ next. StateFits next k)
-unfolding StateFits UseFits
-assigned_fits (ToAssign p x outer) e k h w = (h, (depth_fits outer h, (omega arith, tt)))
+unfolding StateFits SiteFits IsFlat UseFits
+assigned_fits (ToAssign p x site) e k h w = ended_change_fits site (Assign p x e Done) k h (refl, (omega arith, tt))
 assigned_fits (ToInitialise kind p x outer) e k h w = folded_fits outer (Assign p x e Done) h (depth_fits outer h, (omega arith, tt))
-assigned_fits (ToUpdate p x u outer) e k h w = (h, (depth_fits outer h, (omega arith, tt)))
+assigned_fits (ToUpdate p x u site) e k h w = ended_change_fits site (updated p x u e) k h (refl, (omega arith, tt))
 assigned_fits (ToAssert p outer) e k h w = tt
 assigned_fits (ToChoose p outer) e k h w = tt
 assigned_fits (ToLoop p outer) e k h w = tt
+assigned_fits (ToRepeat _ p outer) e k h w = (h.0, w, h.1, h.2)
 
 ended_fits : (fs : List Frame) (u : Use) (e : Term) (k : ℕ) → UseFits u → weight fs + operators e ≤ k → k ≤ 64 → IfSome (ended_by fs u e) (λ next. StateFits next k)
 unfolding weight
@@ -303,11 +334,12 @@ ended_fits (f ∷ fs) u e k h w l = tt
 initialised_fits : (u : Use) (e : Term) (k : ℕ) → UseFits u → operators e ≤ 64 → IfSome (initialised u e) (λ next. StateFits next k)
 unfolding StateFits UseFits
 initialised_fits (ToInitialise kind p x outer) e k h w = folded_fits outer (Assign p x e Done) h (depth_fits outer h, (omega arith, tt))
-initialised_fits (ToAssign p x outer) e k h w = tt
-initialised_fits (ToUpdate p x u outer) e k h w = tt
+initialised_fits (ToAssign p x site) e k h w = tt
+initialised_fits (ToUpdate p x u site) e k h w = tt
 initialised_fits (ToAssert p outer) e k h w = tt
 initialised_fits (ToChoose p outer) e k h w = tt
 initialised_fits (ToLoop p outer) e k h w = tt
+initialised_fits (ToRepeat _ p outer) e k h w = tt
 
 followed_fits : (fs : List Frame) (u : Use) (e : Term) (k : ℕ) → UseFits u → weight fs + operators e ≤ k → k ≤ 64 → IfSome (followed_by fs u e) (λ next. StateFits next k)
 unfolding weight
@@ -325,22 +357,45 @@ have_fits fs u e p signs.Semicolon k l h = ended_fits (settle 6 fs e).0 u (settl
 have_fits fs u e p signs.Comma k l h = followed_fits (settle 6 fs e).0 u (settle 6 fs e).1 k h.0 (settled 6 fs e k h.1) h.2
 have_fits fs u e p _ k l h = tt
 
-named_fits : (q : Place) (x : ℕ) (outer : Stack) (s : Sign) → Fits outer → IfSome (named q x outer s) (λ next. StateFits next 0)
-unfolding StateFits UseFits PendingFits weight
-named_fits q x outer signs.Equals h = (h, omega arith, omega arith)
-named_fits q x outer signs.PlusEquals h = (h, omega arith, omega arith)
-named_fits q x outer signs.MinusEquals h = (h, omega arith, omega arith)
-named_fits q x outer signs.StarEquals h = (h, omega arith, omega arith)
-named_fits q x outer signs.SlashEquals h = (h, omega arith, omega arith)
-named_fits q x outer signs.PercentEquals h = (h, omega arith, omega arith)
-named_fits q x outer signs.PlusPlus h = (h, (depth_fits outer h, (omega arith, tt)))
-named_fits q x outer signs.MinusMinus h = (h, (depth_fits outer h, (omega arith, tt)))
-named_fits q x outer _ h = tt
+named_fits : (q : Place) (x : ℕ) (site : Site) (s : Sign) → SiteFits site → IfSome (named q x site s) (λ next. StateFits next 0)
+unfolding StateFits IsFlat UseFits PendingFits weight
+named_fits q x site signs.Equals h = (h, omega arith, omega arith)
+named_fits q x site signs.PlusEquals h = (h, omega arith, omega arith)
+named_fits q x site signs.MinusEquals h = (h, omega arith, omega arith)
+named_fits q x site signs.StarEquals h = (h, omega arith, omega arith)
+named_fits q x site signs.SlashEquals h = (h, omega arith, omega arith)
+named_fits q x site signs.PercentEquals h = (h, omega arith, omega arith)
+named_fits q x site signs.PlusPlus h = (h, (refl, (omega arith, tt)))
+named_fits q x site signs.MinusMinus h = (h, (refl, (omega arith, tt)))
+named_fits q x site _ h = tt
 
-counting_fits : (q : Place) (u : Count) (outer : Stack) (s : Sign) → Fits outer → IfSome (counting q u outer s) (λ next. StateFits next 0)
-unfolding StateFits PendingFits
-counting_fits q u outer (signs.Name x) h = (h, (depth_fits outer h, (omega arith, tt)))
-counting_fits q u outer _ h = tt
+counting_fits : (q : Place) (u : Count) (site : Site) (s : Sign) → SiteFits site → IfSome (counting q u site s) (λ next. StateFits next 0)
+unfolding StateFits IsFlat PendingFits
+counting_fits q u site (signs.Name x) h = (h, (refl, (omega arith, tt)))
+counting_fits q u site _ h = tt
+
+-- what stands in the parentheses of a `for`
+changing_fits : (site : Site) (p : Place) (s : Sign) → SiteFits site → IfSome (changing site p s) (λ next. StateFits next 0)
+unfolding StateFits
+changing_fits site p (signs.Name x) h = h
+changing_fits site p signs.PlusPlus h = h
+changing_fits site p signs.MinusMinus h = h
+changing_fits site p _ h = tt
+
+start_fits : (outer : Stack) (p : Place) (s : Sign) → suc (depth outer) ≤ 64 → Fits outer → IfSome (start_comes outer p s) (λ next. StateFits next 0)
+unfolding StateFits SiteFits
+start_fits outer p signs.Semicolon le h = (le, (depth_fits outer h, tt), h)
+start_fits outer p s le h = changing_fits (AsStart outer) p s (le, h)
+
+test_fits : (start : Code) (outer : Stack) (p : Place) (s : Sign) (k : ℕ) → is_long (TestComes start outer) s k ≡ false → StateFits (TestComes start outer) k → IfSome (test_comes start outer p s) (λ next. StateFits next (counted (TestComes start outer) s k))
+unfolding StateFits UseFits weight
+test_fits start outer p signs.Semicolon k l h = (h.0, omega arith, h.1, h.2)
+test_fits start outer p s k l h = want_fits [] (ToRepeat start p outer) p s 0 l (h, omega arith, omega arith)
+
+step_part_fits : (start : Code) (p : Place) (e : Term) (outer : Stack) (q : Place) (s : Sign) → StateFits (StepComes start p e outer) 0 → IfSome (step_comes start p e outer q s) (λ next. StateFits next 0)
+unfolding StateFits SiteFits
+step_part_fits start p e outer q signs.Close h = (h.0, h.1, h.2, (omega (arith, h.0), tt), h.3)
+step_part_fits start p e outer q s h = changing_fits (AsStep start p e outer) q s h
 
 local_end_fits : (kind : Qualifier) (outer : Stack) (c : Code) (s : Sign) → Fits outer → Fine (depth outer) c → IfSome (local_end kind outer c s) (λ next. StateFits next 0)
 unfolding StateFits
@@ -394,7 +449,9 @@ semicolon_fits next _ h = tt
 
 finishing_fits : (made : Pending) (s : Sign) → PendingFits made → IfSome (finishing made s) (λ n. StateFits n 0)
 unfolding StateFits PendingFits
-finishing_fits (OfStatement outer c) s h = semicolon_fits (Ended outer c) s h
+finishing_fits (OfStatement site c) signs.Semicolon h = ended_change_fits site c 0 h.0 h.1
+finishing_fits (OfStatement site c) signs.Close h = closed_change_fits site c 0 h.0 h.1
+finishing_fits (OfStatement site c) _ h = tt
 finishing_fits (OfLocal kind outer c) s h = local_end_fits kind outer c s h.0 h.1
 
 void_fits : (next : ReadingState) (s : Sign) → StateFits next 0 → IfSome (at_void next s) (λ n. StateFits n 0)
@@ -617,7 +674,7 @@ over_fits f (part ∷ parts) signs.GroupEnd h = h
 over_fits f _ _ h = tt
 
 step_fits : (state : ReadingState) (p : Place) (s : Sign) (k : ℕ) → is_nested state s ≡ false → is_long state s k ≡ false → StateFits state k → IfSome (step state p s) (λ next. StateFits next (counted state s k))
-unfolding StateFits UseFits PendingFits weight
+unfolding StateFits SiteFits IsFlat UseFits PendingFits weight
 step_fits (Outside secs ds) p s k d l h = outside_fits secs ds s
 step_fits (AfterStatic secs ds) p s k d l h = static_fits secs ds s
 step_fits (AfterExtern secs ds) p s k d l h = extern_fits secs ds s
@@ -650,12 +707,16 @@ step_fits (LocalNamed kind q x outer) p s k d l h = local_named_fits kind q x ou
 step_fits (Ended outer c) p s k d l h = on_fits outer c p s 0 d h.0 h.1
 step_fits (Wants fs u) p s k d l h = want_fits fs u p s k l h
 step_fits (Has fs u e) p s k d l h = have_fits fs u e p s k l h
-step_fits (Counting q u outer) p s k d l h = counting_fits q u outer s h
-step_fits (Named q x outer) p s k d l h = named_fits q x outer s h
+step_fits (Counting q u site) p s k d l h = counting_fits q u site s h
+step_fits (Named q x site) p s k d l h = named_fits q x site s h
 step_fits (Opens u) p s k d l h = open_fits (Wants [] u) s (h, omega arith, omega arith)
+step_fits (ForOpens outer) p s k d l h = open_fits (StartComes outer) s h
+step_fits (StartComes outer) p s k d l h = start_fits outer p s h.0 h.1
+step_fits (TestComes start outer) p s k d l h = test_fits start outer p s k l h
+step_fits (StepComes start q e outer) p s k d l h = step_part_fits start q e outer p s h
 step_fits (VoidComes q outer) p s k d l h = void_fits (VoidCloses q outer) s h
 step_fits (VoidCloses q outer) p s k d l h = close_fits (CallComes q outer) s h
-step_fits (CallComes q outer) p s k d l h = function_fits (CallOpens (OfStatement outer (Skip q Done))) s (h, (depth_fits outer h, tt))
+step_fits (CallComes q outer) p s k d l h = function_fits (CallOpens (OfStatement (AsStatement outer) (Skip q Done))) s (h, (refl, tt))
 step_fits (CallOpens made) p s k d l h = open_fits (CallCloses made) s h
 step_fits (CallCloses made) p s k d l h = close_fits (Finishing made) s h
 step_fits (Finishing made) p s k d l h = finishing_fits made s h

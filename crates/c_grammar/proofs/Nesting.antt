@@ -8,7 +8,7 @@ use Rattle.c_tree.specs.Tree.{Term, Code}
 use Rattle.c_grammar.specs.declared.items.Item.{Item}
 use Rattle.c_grammar.specs.declared.items.Sign.{Sign}
 use Rattle.c_grammar.specs.declared.items.Sign.TheVariants as signs
-use Rattle.c_grammar.specs.Grammar.{at, Prefix, Positive, Negative, Inverse, prefix_sign, Expresses, number, name, group, prefix, loose, binary, Update, Sum, Difference, Product, Quotient, Remainder, update_sign, Count, Raise, Lower, count_sign, LocalDeclarator, uninitialised, initialised, from_call, Shape, Listed, Stated, Chained, Locals, Writes, none, more, choice, local, last_local, next_local, ends, otherwise, elif, assign, Callable, of_input, of_function, input, call, void_call, update, count, prefix_count, assert, skip, block, while, if_then, if_else, Optional, absent, present, Typed, int, int32, signed, signed_int, int_signed, Qualifier, Unqualified, Constant, Counted, behind, Qualified, unqualified, const_before, const_behind, Begins, only_type, then_type, enumeration, Declarator, bare, positive, negative, counted, Ending, variables_end, constants_end, enumeration_end, comma_end, Defines, defined, negative_defined, enclosed, negative_enclosed, Part, Outer, Vars, Later, Declares, nothing, variables, prototype, void_prototype, definition, section, last_var, next_var, end_part, else_part, elif_part, Returns, no_return, return, Gap, Gaps, GapRest, Empty, no_more, empty_section, empty_end, empty_else, empty_elif, Body, body, Main, main, File, Forms, file}
+use Rattle.c_grammar.specs.Grammar.{at, Prefix, Positive, Negative, Inverse, prefix_sign, Expresses, number, name, group, prefix, loose, binary, Update, Sum, Difference, Product, Quotient, Remainder, update_sign, Count, Raise, Lower, count_sign, LocalDeclarator, uninitialised, initialised, from_call, Shape, Listed, Stated, Chained, Locals, Writes, none, more, choice, local, last_local, next_local, ends, otherwise, elif, change, Callable, of_input, of_function, Changes, assignment, input_taken, compound_assignment, count_behind, count_before, Clause, no_clause, clause, Tests, no_test, test, call, void_call, assert, skip, block, while, for, if_then, if_else, Optional, absent, present, Typed, int, int32, signed, signed_int, int_signed, Qualifier, Unqualified, Constant, Counted, behind, Qualified, unqualified, const_before, const_behind, Begins, only_type, then_type, enumeration, Declarator, bare, positive, negative, counted, Ending, variables_end, constants_end, enumeration_end, comma_end, Defines, defined, negative_defined, enclosed, negative_enclosed, Part, Outer, Vars, Later, Declares, nothing, variables, prototype, void_prototype, definition, section, last_var, next_var, end_part, else_part, elif_part, Returns, no_return, return, Gap, Gaps, GapRest, Empty, no_more, empty_section, empty_end, empty_else, empty_elif, Body, body, Main, main, File, Forms, file}
 
 -- ---- what nests
 
@@ -90,6 +90,21 @@ function_flat : {f : Sign} → Callable f → is_flat f ≡ true
 function_flat of_input = refl
 function_flat (of_function k) = refl
 
+change_flat : {ts : List Item} {c : Code} → Changes ts c → AreFlat ts
+change_flat (assignment p q x e) = (refl, (refl, expr_flat e))
+change_flat (input_taken p q r s t x g) = (refl, (refl, (function_flat g, (refl, (refl, tt)))))
+change_flat (compound_assignment p q x u e) = (refl, (update_flat u, expr_flat e))
+change_flat (count_behind p q x u) = (refl, (count_flat u, tt))
+change_flat (count_before p q x u) = (count_flat u, (refl, tt))
+
+clause_flat : {ts : List Item} {c : Code} → Clause ts c → AreFlat ts
+clause_flat no_clause = tt
+clause_flat (clause d) = change_flat d
+
+tests_flat : {us : List Item} {t : Place} {e : Term} → Tests us t e → AreFlat us
+tests_flat (no_test s) = (refl, tt)
+tests_flat (test s {x} {ts} e) = flat_both (x ∷ ts) (at s signs.Semicolon ∷ []) (expr_flat e) (refl, tt)
+
 optional_flat : {s : Sign} {us : List Item} → is_flat s ≡ true → Optional s us → AreFlat us
 optional_flat f (absent s) = tt
 optional_flat f (present p s) = (f, tt)
@@ -149,17 +164,15 @@ code_nests (next_local p {ts} {us} d v) = flat_both ts (at p signs.Comma ∷ us)
 code_nests (ends p) = last_end p
 code_nests (otherwise p q s) = last_part p q (code_nests s)
 code_nests (elif p n s t) = next_part p n (code_nests s) (code_nests t)
-code_nests (assign p q r x e) = flat _ refl (flat _ refl (closed e (flat _ refl no_item)))
-code_nests (input p q r s t u x g) = flat _ refl (flat _ refl (flat _ (function_flat g) (flat _ refl (flat _ refl (flat _ refl no_item)))))
+code_nests (change r {ts} d) = flat_before ts (change_flat d) (flat _ refl no_item)
 code_nests (call p q r s g) = flat _ (function_flat g) (flat _ refl (flat _ refl (flat _ refl no_item)))
 code_nests (void_call p q r s t u v g) = flat _ refl (flat _ refl (flat _ refl (flat _ (function_flat g) (flat _ refl (flat _ refl (flat _ refl no_item))))))
-code_nests (update p q r x u e) = flat _ refl (flat _ (update_flat u) (closed e (flat _ refl no_item)))
-code_nests (count p q r x u) = flat _ refl (flat _ (count_flat u) (flat _ refl no_item))
-code_nests (prefix_count p q r x u) = flat _ (count_flat u) (flat _ refl (flat _ refl no_item))
 code_nests (assert p q r s e) = flat _ refl (flat _ refl (closed e (flat _ refl (flat _ refl no_item))))
 code_nests (skip p) = flat _ refl no_item
 code_nests (block p q s) = braces p q (code_nests s) no_item
 code_nests (while p q r e s) = flat _ refl (flat _ refl (closed e (flat _ refl (code_nests s))))
+code_nests (for p q r z {b} {ts} {us} {vs} {ws} a t d s) =
+    flat _ refl (flat _ refl (flat_before ts (clause_flat a) (flat _ refl (flat_before us (tests_flat t) (flat_before vs (clause_flat d) (flat _ refl (code_nests s)))))))
 code_nests (if_then p q r e s) = flat _ refl (flat _ refl (closed e (flat _ refl (code_nests s))))
 code_nests (if_else p q r z e s t) = flat _ refl (flat _ refl (closed e (flat _ refl (nests_both (code_nests s) (flat _ refl (code_nests t))))))
 

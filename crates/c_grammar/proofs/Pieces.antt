@@ -1,14 +1,15 @@
 -- Statements and declarations are put where they belong.
 use Rattle.std.proofs.Common.{◌≡◌, Bool, true, false, List, [], ◌∷◌, ◌++◌, refl, sym, ap, subst, ◌∙◌, append_assoc}
+use Rattle.std.specs.Prelude.{IfSome}
 use Rattle.std.proofs.lemmas.List.{append-nil}
 use Rattle.fam_outer.specs.declared.faults.Place.{Place}
-use Rattle.c_tree.specs.Tree.{Code, Done, If, While, Cond, followed}
+use Rattle.c_tree.specs.Tree.{Term, Code, Done, If, While, Cond, followed}
 use Rattle.c_grammar.specs.declared.items.Sign.TheVariants as signs
 use Rattle.c_grammar.specs.declared.items.Item.{Item}
 use Rattle.c_grammar.specs.Ahead.{IsList}
-use Rattle.c_grammar.specs.Grammar.{at, Listed, Stated, Qualifier, Qualified, LocalDeclarator, Writes, none, more, choice, local, last_local, next_local, while, if_then, if_else}
-use Rattle.c_grammar.specs.Machine.{Stack, Top, Braces, Yes, No, ThenOf, ElseOf, LoopOf, folded}
-use Rattle.c_grammar.proofs.Standing.{Read, InDeclaration, Piece}
+use Rattle.c_grammar.specs.Grammar.{at, Listed, Stated, Qualifier, Qualified, LocalDeclarator, Changes, clause, Writes, none, more, choice, local, last_local, next_local, change, while, for, if_then, if_else}
+use Rattle.c_grammar.specs.Machine.{Stack, Top, Braces, Yes, No, ThenOf, ElseOf, LoopOf, Site, AsStatement, AsStart, AsStep, folded, ended_change, closed_change}
+use Rattle.c_grammar.proofs.Standing.{LoopHead, while_head, for_head, Read, AtSite, InDeclaration, PendsAt, Piece, Stands}
 use Rattle.c_grammar.proofs.Complete.{followed-none, followed-assoc, folded-none, folded-twice}
 
 single : {d : Bool} {ts : List Item} {c : Code} → Writes (Stated d) ts c → Writes Listed ts c
@@ -34,7 +35,7 @@ piece d (Yes links n made outer) ts c s = single s
 piece d (No links n first made outer) ts c s = single s
 piece d (ThenOf p e outer) ts c s = s
 piece d (ElseOf p e first outer) ts c s = s
-piece d (LoopOf p e outer) ts c s = s
+piece d (LoopOf start p e advance outer) ts c s = s
 
 pub listed : (outer : Stack) (ts : List Item) (c : Code) → IsList outer → Writes Listed ts c → Piece false outer ts c
 listed (Top ds made) ts c is s = s
@@ -43,7 +44,16 @@ listed (Yes links n made outer) ts c is s = s
 listed (No links n first made outer) ts c is s = s
 listed (ThenOf p e outer) ts c is s = absurd is
 listed (ElseOf p e first outer) ts c is s = absurd is
-listed (LoopOf p e outer) ts c is s = absurd is
+listed (LoopOf start p e advance outer) ts c is s = absurd is
+
+-- a loop from what stands before its body
+pub loops : {d : Bool} {start : Code} {p : Place} {e : Term} {advance : Code} {ts us : List Item} {c : Code} → LoopHead start p e advance ts → Writes (Stated d) us c → Writes (Stated d) (ts ++ us) (followed start (While p e advance c Done))
+loops {d = d} {us = us} {c = c} (while_head p q r {ts} {e} s) h =
+    let is : at p signs.While ∷ at q signs.Open ∷ (ts ++ at r signs.Close ∷ us) ≡ (at p signs.While ∷ at q signs.Open ∷ (ts ++ at r signs.Close ∷ [])) ++ us = simp append_assoc in
+    subst (λ (y : List Item). Writes (Stated d) y (While p e Done c Done)) is (while p q r s h)
+loops {d = d} {us = us} {c = c} (for_head p q r z {ts} {us = vs} {vs = ws} {start} {advance} {t} {e} a b s) h =
+    let is : at p signs.For ∷ at q signs.Open ∷ (ts ++ at r signs.Semicolon ∷ (vs ++ (ws ++ at z signs.Close ∷ us))) ≡ (at p signs.For ∷ at q signs.Open ∷ (ts ++ at r signs.Semicolon ∷ (vs ++ (ws ++ at z signs.Close ∷ [])))) ++ us = simp append_assoc in
+    subst (λ (y : List Item). Writes (Stated d) y (followed start (While t e advance c Done))) is (for p q r z a b s h)
 
 pub fold_is : (d : Bool) (outer : Stack) (c : Code) (b ts : List Item) → Read outer b → Piece d outer ts c → Read (folded outer c) (b ++ ts)
 fold_is d (Top ds made) c b ts r s = (r.0, r.1 ++ ts, r.2, joined r.3 s, ap (λ (y : List Item). y ++ ts) r.4 ∙ append_assoc r.0 r.1 ts)
@@ -58,10 +68,49 @@ fold_is d (ElseOf p e first outer) c b ts r s =
     let text : List Item = at p signs.If ∷ at r.0 signs.Open ∷ (r.4 ++ at r.1 signs.Close ∷ (r.5 ++ at r.2 signs.Else ∷ ts)) in
     let is : b ++ ts ≡ r.3 ++ text = ap (λ (y : List Item). y ++ ts) r.9 ∙ simp append_assoc in
     subst (Read (folded outer (If p e first c Done))) (sym is) (fold_is d outer (If p e first c Done) r.3 text r.6 (piece d outer text (If p e first c Done) (if_else p r.0 r.1 r.2 r.7 r.8 s)))
-fold_is d (LoopOf p e outer) c b ts r s =
-    let text : List Item = at p signs.While ∷ at r.0 signs.Open ∷ (r.3 ++ at r.1 signs.Close ∷ ts) in
-    let is : b ++ ts ≡ r.2 ++ text = ap (λ (y : List Item). y ++ ts) r.6 ∙ simp append_assoc in
-    subst (Read (folded outer (While p e c Done))) (sym is) (fold_is d outer (While p e c Done) r.2 text r.4 (piece d outer text (While p e c Done) (while p r.0 r.1 r.5 s)))
+fold_is d (LoopOf start p e advance outer) c b ts r s =
+    let text : List Item = r.1 ++ ts in
+    let made : Code = followed start (While p e advance c Done) in
+    let is : b ++ ts ≡ r.0 ++ text = ap (λ (y : List Item). y ++ ts) r.4 ∙ append_assoc r.0 r.1 ts in
+    subst (Read (folded outer made)) (sym is) (fold_is d outer made r.0 text r.2 (piece d outer text made (loops r.3 s)))
+
+-- ---- changes
+
+-- a change where one may stand
+pub change_pends : (site : Site) {ts : List Item} {c : Code} → Changes ts c → PendsAt site c ts
+change_pends (AsStatement outer) s = λ r. change r s
+change_pends (AsStart outer) s = s
+change_pends (AsStep start p e outer) s = s
+
+-- what is read but for its end, behind what stands before it
+abbrev pub AtEnd : Site → Code → List Item → Type 0
+AtEnd site c a = (b ts : List Item) × AtSite site b × PendsAt site c ts × (a ≡ b ++ ts)
+
+-- a semicolon ends it
+pub change_ends : (site : Site) (c : Code) (p : Place) (a : List Item) → AtEnd site c a → IfSome (ended_change site c) (λ next. Stands next (a ++ at p signs.Semicolon ∷ []))
+change_ends (AsStatement outer) c p a r = (
+  r.0,
+  r.1 ++ at p signs.Semicolon ∷ [],
+  r.2,
+  piece false outer (r.1 ++ at p signs.Semicolon ∷ []) c (r.3 p),
+  ap (λ (y : List Item). y ++ at p signs.Semicolon ∷ []) r.4 ∙ append_assoc r.0 r.1 (at p signs.Semicolon ∷ []),
+)
+change_ends (AsStart outer) c p a r =
+    let h = r.2 in
+    (h.0, h.1, p, h.2, r.1, h.3, clause r.3, ap (λ (y : List Item). y ++ at p signs.Semicolon ∷ []) (r.4 ∙ ap (λ (y : List Item). y ++ r.1) h.4) ∙ simp append_assoc)
+change_ends (AsStep start q e outer) c p a r = tt
+
+-- the closing parenthesis of a `for` ends it
+pub change_closes : (site : Site) (c : Code) (p : Place) (a : List Item) → AtEnd site c a → IfSome (closed_change site c) (λ next. Stands next (a ++ at p signs.Close ∷ []))
+change_closes (AsStatement outer) c p a r = tt
+change_closes (AsStart outer) c p a r = tt
+change_closes (AsStep start q e outer) c p a r = let h = r.2 in (
+  h.3,
+  at h.0 signs.For ∷ at h.1 signs.Open ∷ (h.4 ++ at h.2 signs.Semicolon ∷ (h.5 ++ (r.1 ++ at p signs.Close ∷ []))),
+  h.6,
+  for_head h.0 h.1 h.2 p h.7 h.8 (clause r.3),
+  ap (λ (y : List Item). y ++ at p signs.Close ∷ []) (r.4 ∙ ap (λ (y : List Item). y ++ r.1) h.9) ∙ simp append_assoc,
+)
 
 -- ---- declarations in `main`
 

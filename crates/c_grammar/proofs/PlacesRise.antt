@@ -2,13 +2,13 @@
 use Rattle.std.proofs.Common.{◌≡◌, List, [], ◌∷◌, ◌++◌, sym, ap, subst, ◌∙◌, append_assoc}
 use Rattle.std.proofs.lemmas.List.{append-nil}
 use Rattle.fam_outer.specs.declared.faults.Place.{Place}
-use Rattle.c_tree.specs.Tree.{Code, followed}
+use Rattle.c_tree.specs.Tree.{Term, Code, Done, While, followed}
 use Rattle.c_tree.specs.Places.{places_of}
 use Rattle.c_tree.specs.Whole.{IsBeforeAll, IsRising}
 use Rattle.c_tree.proofs.Listed.{places_of-followed}
 use Rattle.c_grammar.specs.declared.items.Item.{Item}
 use Rattle.c_grammar.specs.declared.items.Sign.TheVariants as signs
-use Rattle.c_grammar.specs.Grammar.{at, update_sign, count_sign, Qualifier, LocalDeclarator, uninitialised, initialised, from_call, Shape, Writes, none, more, choice, local, last_local, next_local, ends, otherwise, elif, assign, input, call, void_call, update, count, prefix_count, assert, skip, block, while, if_then, if_else, Returns, no_return, return, Body, body, Main, main, File, Forms, file}
+use Rattle.c_grammar.specs.Grammar.{at, update_sign, count_sign, Changes, assignment, input_taken, compound_assignment, count_behind, count_before, Clause, no_clause, clause, Tests, no_test, test, Qualifier, LocalDeclarator, uninitialised, initialised, from_call, Shape, Writes, none, more, choice, local, last_local, next_local, ends, otherwise, elif, change, call, void_call, assert, skip, block, while, for, if_then, if_else, Returns, no_return, return, Body, body, Main, main, File, Forms, file}
 use Rattle.c_grammar.specs.Facts.{IsBeforeItems, AreRising}
 
 -- the places are those of some of the items
@@ -51,6 +51,22 @@ local_part (uninitialised p x) = keep (at p (signs.Name x)) end
 local_part (initialised p q x {ts = ts} e) = keep (at p (signs.Name x)) (no_part (at q signs.Equals ∷ ts))
 local_part (from_call p q r s t x {f = f} g) = keep (at p (signs.Name x)) (no_part (at q signs.Equals ∷ at r f ∷ at s signs.Open ∷ at t signs.Close ∷ []))
 
+change_part : {ts : List Item} {c : Code} → Changes ts c → IsPart (places_of c) ts
+change_part (assignment p q x {ts} e) = keep (at p (signs.Name x)) (no_part (at q signs.Equals ∷ ts))
+change_part (input_taken p q r s t x {f} g) = keep (at p (signs.Name x)) (no_part (at q signs.Equals ∷ at r f ∷ at s signs.Open ∷ at t signs.Close ∷ []))
+change_part (compound_assignment p q x u {ts} e) = keep (at p (signs.Name x)) (no_part (at q (update_sign u) ∷ ts))
+change_part (count_behind p q x u) = keep (at p (signs.Name x)) (no_part (at q (count_sign u) ∷ []))
+change_part (count_before p q x u) = keep (at p (count_sign u)) (no_part (at q (signs.Name x) ∷ []))
+
+clause_part : {ts : List Item} {c : Code} → Clause ts c → IsPart (places_of c) ts
+clause_part no_clause = end
+clause_part (clause s) = change_part s
+
+-- the place of a `for` is that of its test
+test_part : {ts : List Item} {p : Place} {e : Term} → Tests ts p e → IsPart (p ∷ []) ts
+test_part (no_test z) = keep (at z signs.Semicolon) end
+test_part (test z {x} {ts} s) = keep x (no_part (ts ++ at z signs.Semicolon ∷ []))
+
 code_part : {s : Shape} {ts : List Item} {c : Code} → Writes s ts c → IsPart (places_of c) ts
 code_part none = end
 code_part (more {b} {ts} {us} {c} {d} s l) = subst (λ (y : List Place). IsPart y (ts ++ us)) (sym (places_of-followed c d)) (joined (code_part s) (code_part l))
@@ -61,17 +77,17 @@ code_part (next_local p {ts} {us} {c} {d} o v) = subst (λ (y : List Place). IsP
 code_part (ends p) = pass (at p signs.GroupEnd) end
 code_part (otherwise p q s) = pass (at p signs.GroupElse) (before (at q signs.GroupEnd ∷ []) (code_part s))
 code_part (elif p m s t) = pass (at p (signs.GroupElif m)) (joined (code_part s) (padded (code_part t)))
-code_part (assign p q r x {ts} e) = keep (at p (signs.Name x)) (no_part (at q signs.Equals ∷ (ts ++ at r signs.Semicolon ∷ [])))
-code_part (input p q r s t u x {f} g) = keep (at p (signs.Name x)) (no_part (at q signs.Equals ∷ at r f ∷ at s signs.Open ∷ at t signs.Close ∷ at u signs.Semicolon ∷ []))
+code_part (change r s) = before (at r signs.Semicolon ∷ []) (change_part s)
 code_part (call p q r s {f} g) = keep (at p f) (no_part (at q signs.Open ∷ at r signs.Close ∷ at s signs.Semicolon ∷ []))
 code_part (void_call p q r s t u v {f} g) = keep (at p signs.Open) (no_part (at q signs.Void ∷ at r signs.Close ∷ at s f ∷ at t signs.Open ∷ at u signs.Close ∷ at v signs.Semicolon ∷ []))
-code_part (update p q r x u {ts} e) = keep (at p (signs.Name x)) (no_part (at q (update_sign u) ∷ (ts ++ at r signs.Semicolon ∷ [])))
-code_part (count p q r x u) = keep (at p (signs.Name x)) (no_part (at q (count_sign u) ∷ at r signs.Semicolon ∷ []))
-code_part (prefix_count p q r x u) = keep (at p (count_sign u)) (no_part (at q (signs.Name x) ∷ at r signs.Semicolon ∷ []))
 code_part (assert p q r s {ts} e) = keep (at p signs.Assert) (no_part (at q signs.Open ∷ (ts ++ at r signs.Close ∷ at s signs.Semicolon ∷ [])))
 code_part (skip p) = keep (at p signs.Semicolon) end
 code_part (block p q s) = keep (at p signs.LeftBrace) (joined (code_part s) (no_part (at q signs.RightBrace ∷ [])))
 code_part (while p q r {b} {ts} {us} e s) = keep (at p signs.While) (pass (at q signs.Open) (pass_all ts (pass (at r signs.Close) (padded (code_part s)))))
+code_part (for p q r z {b} {ts} {us} {vs} {ws} {start} {step = advance} {c} {t} {e} first middle last s) =
+    let behind : IsPart (places_of advance ++ (places_of c ++ [])) (vs ++ at z signs.Close ∷ ws) = joined (clause_part last) (pass (at z signs.Close) (padded (code_part s))) in
+    let text : List Item = at p signs.For ∷ at q signs.Open ∷ (ts ++ at r signs.Semicolon ∷ (us ++ (vs ++ at z signs.Close ∷ ws))) in
+    subst (λ (y : List Place). IsPart y text) (sym (places_of-followed start (While t e advance c Done))) (pass (at p signs.For) (pass (at q signs.Open) (joined (clause_part first) (pass (at r signs.Semicolon) (joined (test_part middle) behind)))))
 code_part (if_then p q r {b} {ts} {us} e s) = keep (at p signs.If) (pass (at q signs.Open) (pass_all ts (pass (at r signs.Close) (padded (code_part s)))))
 code_part (if_else p q r z {b} {ts} {us} {vs} e s t) = keep (at p signs.If) (pass (at q signs.Open) (pass_all ts (pass (at r signs.Close) (joined (code_part s) (pass (at z signs.Else) (padded (code_part t)))))))
 

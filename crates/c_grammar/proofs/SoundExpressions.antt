@@ -8,12 +8,12 @@ use Rattle.c_tree.specs.Tree.{Term, Binary, Done, Assign, Assert}
 use Rattle.c_grammar.specs.declared.items.Sign.{Sign}
 use Rattle.c_grammar.specs.declared.items.Sign.TheVariants as signs
 use Rattle.c_grammar.specs.declared.items.Item.{Item}
-use Rattle.c_grammar.specs.Grammar.{at, Qualifier, tighter, prefix_sign, applied, Expresses, number, name, group, prefix, loose, binary, update_sign, updated, Callable, of_input, of_function, LocalDeclarator, from_call, Stated, Writes, assign, input, update, assert}
+use Rattle.c_grammar.specs.Grammar.{at, Qualifier, tighter, prefix_sign, applied, Expresses, number, name, group, prefix, loose, binary, Update, update_sign, updated, Callable, of_input, of_function, assignment, input_taken, compound_assignment, Tests, test, LocalDeclarator, from_call, Stated, Writes, assert}
 use Rattle.c_grammar.specs.Grammar as grammar
-use Rattle.c_grammar.specs.Machine.{Frame, Paren, Pre, Left, room, Stack, Use, ToAssign, ToInitialise, ToUpdate, ToAssert, ToChoose, ToLoop, Has, folded, settle, input_of, want, tested, closed_by, assigned, ended_by, initialised, followed_by, have}
-use Rattle.c_grammar.proofs.Standing.{InDeclaration, Read, Framed, Stands}
+use Rattle.c_grammar.specs.Machine.{Frame, Paren, Pre, Left, room, Stack, Site, Use, ToAssign, ToInitialise, ToUpdate, ToAssert, ToChoose, ToLoop, ToRepeat, Has, folded, settle, input_of, want, tested, closed_by, assigned, ended_by, initialised, followed_by, have}
+use Rattle.c_grammar.proofs.Standing.{while_head, InDeclaration, Read, StartsAt, Starts, Leads, Framed, Stands}
 use Rattle.c_grammar.proofs.Complete.{tighter_small}
-use Rattle.c_grammar.proofs.Pieces.{piece, declaration_goes_on, declaration_ends}
+use Rattle.c_grammar.proofs.Pieces.{AtEnd, change_pends, change_ends, change_closes, declaration_goes_on, declaration_ends}
 
 loosen : (j k : ℕ) {ts : List Item} {e : Term} → j ≤ k → Expresses j ts e → Expresses k ts e
 loosen j zero {ts} {e} le s = let h : j ≡ 0 = omega arith in subst (λ (i : ℕ). Expresses i ts e) h s
@@ -22,54 +22,87 @@ loosen j (suc k) {ts} {e} le s = elim (cases_lt j (suc k)) [
   | inr ge ↦ (let h : j ≡ suc k = omega arith in subst (λ (i : ℕ). Expresses i ts e) h s)
 ]
 
+-- what stands first stands so before more
+starts_more : (u : Use) (ts us : List Item) → Starts u ts → Starts u (ts ++ us)
+starts_more (ToAssign p x site) ts us h = tt
+starts_more (ToInitialise kind p x outer) ts us h = tt
+starts_more (ToUpdate p x u site) ts us h = tt
+starts_more (ToAssert p outer) ts us h = tt
+starts_more (ToChoose p outer) ts us h = tt
+starts_more (ToLoop p outer) ts us h = tt
+starts_more (ToRepeat start p outer) [] us h = absurd h
+starts_more (ToRepeat start p outer) (x ∷ ts) us h = h
+
+leads_more : (u : Use) (fs : List Frame) (ts us : List Item) → Leads u fs ts → Leads u fs (ts ++ us)
+leads_more u [] ts us h = starts_more u ts us h
+leads_more u (f ∷ fs) ts us h = tt
+
 record Settled (u : Use) (k : ℕ) (s : List Frame × Term) (a : List Item) : Type 0 where
   pub before : List Item
   pub text : List Item
   pub is_read : Framed u s.0 before
+  pub leads : Leads u s.0 text
   pub spells : Expresses k text s.1
   pub fits : k ≤ room s.0
   pub parts : a ≡ before ++ text
 
-settle_is : (u : Use) (k : ℕ) → k ≤ 6 → (fs : List Frame) (e : Term) (j : ℕ) → j ≤ k → j ≤ room fs → (b ts : List Item) → Framed u fs b → Expresses j ts e → Settled u k (settle k fs e) (b ++ ts)
-settle_is u k small [] e j le fits b ts r s = record { before = b; text = ts; is_read = r; spells = loosen j k le s; fits = small; parts = refl }
-settle_is u k small (Paren ∷ fs) e j le fits b ts r s = record { before = b; text = ts; is_read = r; spells = loosen j k le s; fits = small; parts = refl }
-settle_is u k small (Pre v ∷ fs) e j le fits b ts r s =
-    let is : b ++ ts ≡ r.1 ++ (at r.0 (prefix_sign v) ∷ ts) = ap (λ (x : List Item). x ++ ts) r.3 ∙ append_assoc r.1 (at r.0 (prefix_sign v) ∷ []) ts in
-    subst (λ (x : List Item). Settled u k (settle k fs (applied v e)) x) (sym is) (settle_is u k small fs (applied v e) 0 (omega arith) (omega arith) r.1 (at r.0 (prefix_sign v) ∷ ts) r.2 (prefix r.0 v (loosen j 0 fits s)))
-settle_is u k small (Left op x ∷ fs) e j le fits b ts r s =
+settle_is : (u : Use) (k : ℕ) → k ≤ 6 → (fs : List Frame) (e : Term) (j : ℕ) → j ≤ k → j ≤ room fs → (b ts : List Item) → Framed u fs b → Leads u fs ts → Expresses j ts e → Settled u k (settle k fs e) (b ++ ts)
+settle_is u k small [] e j le fits b ts r l s = record { before = b; text = ts; is_read = r; leads = l; spells = loosen j k le s; fits = small; parts = refl }
+settle_is u k small (Paren ∷ fs) e j le fits b ts r l s = record { before = b; text = ts; is_read = r; leads = l; spells = loosen j k le s; fits = small; parts = refl }
+settle_is u k small (Pre v ∷ fs) e j le fits b ts r l s =
+    let is : b ++ ts ≡ r.1 ++ (at r.0 (prefix_sign v) ∷ ts) = ap (λ (x : List Item). x ++ ts) r.4 ∙ append_assoc r.1 (at r.0 (prefix_sign v) ∷ []) ts in
+    subst (λ (x : List Item). Settled u k (settle k fs (applied v e)) x) (sym is) (settle_is u k small fs (applied v e) 0 (omega arith) (omega arith) r.1 (at r.0 (prefix_sign v) ∷ ts) r.2 (leads_more u fs (at r.0 (prefix_sign v) ∷ []) ts r.3) (prefix r.0 v (loosen j 0 fits s)))
+settle_is u k small (Left op x ∷ fs) e j le fits b ts r l s =
     elim (ltb (tighter op) k) as (λ v. ltb (tighter op) k ≡ v → Settled u k (cond v (settle k fs (Binary op x e)) (Left op x ∷ fs, e)) (b ++ ts)) [
       | true ↦ λ h.
-          let is : b ++ ts ≡ r.1 ++ (r.2 ++ at r.0 (signs.Oper op) ∷ ts) = ap (λ (y : List Item). y ++ ts) r.6 ∙ append_assoc r.1 (r.2 ++ at r.0 (signs.Oper op) ∷ []) ts ∙ ap (λ (y : List Item). r.1 ++ y) (append_assoc r.2 (at r.0 (signs.Oper op) ∷ []) ts) in
+          let is : b ++ ts ≡ r.1 ++ (r.2 ++ at r.0 (signs.Oper op) ∷ ts) = ap (λ (y : List Item). y ++ ts) r.7 ∙ append_assoc r.1 (r.2 ++ at r.0 (signs.Oper op) ∷ []) ts ∙ ap (λ (y : List Item). r.1 ++ y) (append_assoc r.2 (at r.0 (signs.Oper op) ∷ []) ts) in
           subst (λ (y : List Item). Settled u k (settle k fs (Binary op x e)) y) (sym is)
-          (settle_is u k small fs (Binary op x e) (suc (tighter op)) (ltb-true (tighter op) k h) r.5 r.1 (r.2 ++ at r.0 (signs.Oper op) ∷ ts) r.3 (binary r.0 op r.4 (loosen j (tighter op) fits s)))
-      | false ↦ λ h. record { before = b; text = ts; is_read = r; spells = loosen j k le s; fits = ltb-false (tighter op) k h; parts = refl }
+          (settle_is u k small fs (Binary op x e) (suc (tighter op)) (ltb-true (tighter op) k h) r.6 r.1 (r.2 ++ at r.0 (signs.Oper op) ∷ ts) r.3 (leads_more u fs r.2 (at r.0 (signs.Oper op) ∷ ts) r.4) (binary r.0 op r.5 (loosen j (tighter op) fits s)))
+      | false ↦ λ h. record { before = b; text = ts; is_read = r; leads = l; spells = loosen j k le s; fits = ltb-false (tighter op) k h; parts = refl }
     ] refl
 
 of_state : (fs : List Frame) (u : Use) (e : Term) (a : List Item) (k : ℕ) → k ≤ 6 → Stands (Has fs u e) a → Settled u k (settle k fs e) a
-of_state fs u e a k small h = subst (λ (y : List Item). Settled u k (settle k fs e) y) (sym h.4) (settle_is u k small fs e 0 (omega arith) (omega arith) h.0 h.1 h.2 h.3)
+of_state fs u e a k small h = subst (λ (y : List Item). Settled u k (settle k fs e) y) (sym h.5) (settle_is u k small fs e 0 (omega arith) (omega arith) h.0 h.1 h.2 h.3 h.4)
 
 input_keeps : {f : Sign} (fs : List Frame) (u : Use) (p : Place) (a : List Item) → Callable f → Framed u fs a → IfSome (input_of fs u) (λ next. Stands next (a ++ at p f ∷ []))
-input_keeps {f} [] (ToAssign q x outer) p a g r =
-    (r.1, at q (signs.Name x) ∷ at r.0 signs.Equals ∷ at p f ∷ [], r.2, (λ s t v. input q r.0 p s t v x g), ap (λ (y : List Item). y ++ at p f ∷ []) r.3 ∙ append_assoc r.1 (at q (signs.Name x) ∷ at r.0 signs.Equals ∷ []) (at p f ∷ []))
+input_keeps {f} [] (ToAssign q x site) p a g r =
+    (r.1, at q (signs.Name x) ∷ at r.0 signs.Equals ∷ at p f ∷ [], r.2, (λ s t. change_pends site (input_taken q r.0 p s t x g)), ap (λ (y : List Item). y ++ at p f ∷ []) r.3 ∙ append_assoc r.1 (at q (signs.Name x) ∷ at r.0 signs.Equals ∷ []) (at p f ∷ []))
 input_keeps {f} [] (ToInitialise kind q x outer) p a g r =
     (r.1, at q (signs.Name x) ∷ at r.0 signs.Equals ∷ at p f ∷ [], r.2, (λ s t. from_call q r.0 p s t x g), ap (λ (y : List Item). y ++ at p f ∷ []) r.3 ∙ append_assoc r.1 (at q (signs.Name x) ∷ at r.0 signs.Equals ∷ []) (at p f ∷ []))
 input_keeps _ _ p a g r = tt
 
-pub want_keeps : (fs : List Frame) (u : Use) (p : Place) (s : Sign) (a : List Item) → Framed u fs a → IfSome (want fs u s) (λ next. Stands next (a ++ at p s ∷ []))
-want_keeps fs u p (signs.Number n) a r = (a, at p (signs.Number n) ∷ [], r, number p n, refl)
-want_keeps fs u p (signs.Name x) a r = (a, at p (signs.Name x) ∷ [], r, name p x, refl)
-want_keeps fs u p signs.Open a r = (p, a, r, refl)
-want_keeps fs u p signs.Bang a r = (p, a, r, refl)
-want_keeps fs u p (signs.Oper Add) a r = (p, a, r, refl)
-want_keeps fs u p (signs.Oper Sub) a r = (p, a, r, refl)
-want_keeps fs u p signs.Input a r = input_keeps fs u p a of_input r
-want_keeps fs u p (signs.Function k) a r = input_keeps fs u p a (of_function k) r
-want_keeps fs u p _ a r = tt
+pub want_keeps : (fs : List Frame) (u : Use) (p : Place) (s : Sign) (a : List Item) → Framed u fs a → Leads u fs (at p s ∷ []) → IfSome (want fs u s) (λ next. Stands next (a ++ at p s ∷ []))
+want_keeps fs u p (signs.Number n) a r l = (a, at p (signs.Number n) ∷ [], r, l, number p n, refl)
+want_keeps fs u p (signs.Name x) a r l = (a, at p (signs.Name x) ∷ [], r, l, name p x, refl)
+want_keeps fs u p signs.Open a r l = ((p, a, r, l, refl), λ q s. tt)
+want_keeps fs u p signs.Bang a r l = ((p, a, r, l, refl), λ q s. tt)
+want_keeps fs u p (signs.Oper Add) a r l = ((p, a, r, l, refl), λ q s. tt)
+want_keeps fs u p (signs.Oper Sub) a r l = ((p, a, r, l, refl), λ q s. tt)
+want_keeps fs u p signs.Input a r l = input_keeps fs u p a of_input r
+want_keeps fs u p (signs.Function k) a r l = input_keeps fs u p a (of_function k) r
+want_keeps fs u p _ a r l = tt
+
+-- an assignment of an expression
+assigns : (q : Place) (x : ℕ) (site : Site) (e : Term) (a : List Item) → Settled (ToAssign q x site) 6 ([], e) a → AtEnd site (Assign q x e Done) a
+assigns q x site e a d =
+    let r = d.is_read in
+    (r.1, at q (signs.Name x) ∷ at r.0 signs.Equals ∷ d.text, r.2, change_pends site (assignment q r.0 x d.spells), d.parts ∙ ap (λ (y : List Item). y ++ d.text) r.3 ∙ append_assoc r.1 (at q (signs.Name x) ∷ at r.0 signs.Equals ∷ []) d.text)
+
+-- the same of a compound one
+updates : (q : Place) (x : ℕ) (v : Update) (site : Site) (e : Term) (a : List Item) → Settled (ToUpdate q x v site) 6 ([], e) a → AtEnd site (updated q x v e) a
+updates q x v site e a d =
+    let r = d.is_read in
+    (r.1, at q (signs.Name x) ∷ at r.0 (update_sign v) ∷ d.text, r.2, change_pends site (compound_assignment q r.0 x v d.spells), d.parts ∙ ap (λ (y : List Item). y ++ d.text) r.3 ∙ append_assoc r.1 (at q (signs.Name x) ∷ at r.0 (update_sign v) ∷ []) d.text)
+
+-- the test of a `for` and its semicolon
+test_of : (p z : Place) (ts : List Item) (e : Term) → Expresses 6 ts e → StartsAt p ts → Tests (ts ++ at z signs.Semicolon ∷ []) p e
+test_of p z [] e s h = absurd h
+test_of p z (x ∷ ts) e s h = subst (λ (y : Place). Tests (x ∷ (ts ++ at z signs.Semicolon ∷ [])) y e) h (test z s)
 
 tested_keeps : (u : Use) (e : Term) (p : Place) (a : List Item) → Settled u 6 ([], e) a → IfSome (tested u e) (λ next. Stands next (a ++ at p signs.Close ∷ []))
-tested_keeps (ToAssign q x outer) e p a d = tt
+tested_keeps (ToAssign q x site) e p a d = change_closes site (Assign q x e Done) p a (assigns q x site e a d)
 tested_keeps (ToInitialise kind q x outer) e p a d = tt
-tested_keeps (ToUpdate q x u outer) e p a d = tt
+tested_keeps (ToUpdate q x v site) e p a d = change_closes site (updated q x v e) p a (updates q x v site e a d)
 tested_keeps (ToAssert q outer) e p a d =
     let r = d.is_read in
     let text : List Item = at q signs.Assert ∷ at r.0 signs.Open ∷ (d.text ++ at p signs.Close ∷ []) in
@@ -81,7 +114,10 @@ tested_keeps (ToAssert q outer) e p a d =
       ap (λ (y : List Item). y ++ at p signs.Close ∷ []) (d.parts ∙ ap (λ (y : List Item). y ++ d.text) r.3) ∙ simp append_assoc,
     )
 tested_keeps (ToChoose q outer) e p a d = let r = d.is_read in (r.0, p, r.1, d.text, r.2, d.spells, ap (λ (y : List Item). y ++ at p signs.Close ∷ []) (d.parts ∙ ap (λ (y : List Item). y ++ d.text) r.3) ∙ simp append_assoc)
-tested_keeps (ToLoop q outer) e p a d = let r = d.is_read in (r.0, p, r.1, d.text, r.2, d.spells, ap (λ (y : List Item). y ++ at p signs.Close ∷ []) (d.parts ∙ ap (λ (y : List Item). y ++ d.text) r.3) ∙ simp append_assoc)
+tested_keeps (ToLoop q outer) e p a d =
+    let r = d.is_read in
+    (r.1, at q signs.While ∷ at r.0 signs.Open ∷ (d.text ++ at p signs.Close ∷ []), r.2, while_head q r.0 p d.spells, ap (λ (y : List Item). y ++ at p signs.Close ∷ []) (d.parts ∙ ap (λ (y : List Item). y ++ d.text) r.3) ∙ simp append_assoc)
+tested_keeps (ToRepeat start q outer) e p a d = tt
 
 closed_keeps : (fs : List Frame) (u : Use) (e : Term) (p : Place) (a : List Item) → Settled u 6 (fs, e) a → IfSome (closed_by fs u e) (λ next. Stands next (a ++ at p signs.Close ∷ []))
 closed_keeps [] u e p a d = tested_keeps u e p a d
@@ -90,8 +126,9 @@ closed_keeps (Paren ∷ fs) u e p a d =
       r.1,
       at r.0 signs.Open ∷ (d.text ++ at p signs.Close ∷ []),
       r.2,
+      leads_more u fs (at r.0 signs.Open ∷ []) (d.text ++ at p signs.Close ∷ []) r.3,
       group r.0 p d.spells,
-      ap (λ (y : List Item). y ++ at p signs.Close ∷ []) (d.parts ∙ ap (λ (y : List Item). y ++ d.text) r.3) ∙ simp append_assoc,
+      ap (λ (y : List Item). y ++ at p signs.Close ∷ []) (d.parts ∙ ap (λ (y : List Item). y ++ d.text) r.4) ∙ simp append_assoc,
     )
 closed_keeps (Pre v ∷ fs) u e p a d = tt
 closed_keeps (Left op x ∷ fs) u e p a d = tt
@@ -103,18 +140,15 @@ initialises kind q x outer e p s a d =
     (r.1, at q (signs.Name x) ∷ at r.0 signs.Equals ∷ d.text, r.2, grammar.initialised q r.0 x d.spells, ap (λ (y : List Item). y ++ at p s ∷ []) (d.parts ∙ ap (λ (y : List Item). y ++ d.text) r.3) ∙ simp append_assoc)
 
 assigned_keeps : (u : Use) (e : Term) (p : Place) (a : List Item) → Settled u 6 ([], e) a → IfSome (assigned u e) (λ next. Stands next (a ++ at p signs.Semicolon ∷ []))
-assigned_keeps (ToAssign q x outer) e p a d =
-    let r = d.is_read in
-    let text : List Item = at q (signs.Name x) ∷ at r.0 signs.Equals ∷ (d.text ++ at p signs.Semicolon ∷ []) in
-    (r.1, text, r.2, piece false outer text (Assign q x e Done) (assign q r.0 p x d.spells), ap (λ (y : List Item). y ++ at p signs.Semicolon ∷ []) (d.parts ∙ ap (λ (y : List Item). y ++ d.text) r.3) ∙ simp append_assoc)
+assigned_keeps (ToAssign q x site) e p a d = change_ends site (Assign q x e Done) p a (assigns q x site e a d)
 assigned_keeps (ToInitialise kind q x outer) e p a d = let r = initialises kind q x outer e p signs.Semicolon a d in subst (Read (folded outer (Assign q x e Done))) (sym r.4) (declaration_ends p r.2 r.3)
-assigned_keeps (ToUpdate q x v outer) e p a d =
-    let r = d.is_read in
-    let text : List Item = at q (signs.Name x) ∷ at r.0 (update_sign v) ∷ (d.text ++ at p signs.Semicolon ∷ []) in
-    (r.1, text, r.2, piece false outer text (updated q x v e) (update q r.0 p x v d.spells), ap (λ (y : List Item). y ++ at p signs.Semicolon ∷ []) (d.parts ∙ ap (λ (y : List Item). y ++ d.text) r.3) ∙ simp append_assoc)
+assigned_keeps (ToUpdate q x v site) e p a d = change_ends site (updated q x v e) p a (updates q x v site e a d)
 assigned_keeps (ToAssert q outer) e p a d = tt
 assigned_keeps (ToChoose q outer) e p a d = tt
 assigned_keeps (ToLoop q outer) e p a d = tt
+assigned_keeps (ToRepeat start q outer) e p a d =
+    let r = d.is_read in
+    (r.0, r.1, r.2, r.3, r.4, d.text ++ at p signs.Semicolon ∷ [], r.5, r.6, test_of q p d.text e d.spells d.leads, ap (λ (y : List Item). y ++ at p signs.Semicolon ∷ []) (d.parts ∙ ap (λ (y : List Item). y ++ d.text) r.7) ∙ simp append_assoc)
 
 ended_keeps : (fs : List Frame) (u : Use) (e : Term) (p : Place) (a : List Item) → Settled u 6 (fs, e) a → IfSome (ended_by fs u e) (λ next. Stands next (a ++ at p signs.Semicolon ∷ []))
 ended_keeps [] u e p a d = assigned_keeps u e p a d
@@ -127,6 +161,7 @@ initialised_keeps (ToUpdate q x v outer) e p a d = tt
 initialised_keeps (ToAssert q outer) e p a d = tt
 initialised_keeps (ToChoose q outer) e p a d = tt
 initialised_keeps (ToLoop q outer) e p a d = tt
+initialised_keeps (ToRepeat start q outer) e p a d = tt
 
 followed_keeps : (fs : List Frame) (u : Use) (e : Term) (p : Place) (a : List Item) → Settled u 6 (fs, e) a → IfSome (followed_by fs u e) (λ next. Stands next (a ++ at p signs.Comma ∷ []))
 followed_keeps [] u e p a d = initialised_keeps u e p a d
@@ -136,7 +171,7 @@ pub have_keeps : (fs : List Frame) (u : Use) (e : Term) (p : Place) (s : Sign) (
 have_keeps fs u e p signs.Close a r = closed_keeps (settle 6 fs e).0 u (settle 6 fs e).1 p a (of_state fs u e a 6 (omega arith) r)
 have_keeps fs u e p (signs.Oper op) a r =
     let d = of_state fs u e a (suc (tighter op)) (tighter_small op) r in
-    (p, d.before, d.text, d.is_read, d.spells, d.fits, ap (λ (y : List Item). y ++ at p (signs.Oper op) ∷ []) d.parts ∙ append_assoc d.before d.text (at p (signs.Oper op) ∷ []))
+    ((p, d.before, d.text, d.is_read, d.leads, d.spells, d.fits, ap (λ (y : List Item). y ++ at p (signs.Oper op) ∷ []) d.parts ∙ append_assoc d.before d.text (at p (signs.Oper op) ∷ [])), λ q s. tt)
 have_keeps fs u e p signs.Semicolon a r = ended_keeps (settle 6 fs e).0 u (settle 6 fs e).1 p a (of_state fs u e a 6 (omega arith) r)
 have_keeps fs u e p signs.Comma a r = followed_keeps (settle 6 fs e).0 u (settle 6 fs e).1 p a (of_state fs u e a 6 (omega arith) r)
 have_keeps fs u e p _ a r = tt

@@ -3,16 +3,17 @@ use Rattle.std.proofs.Common.{◌≡◌, ℕ, false, List, [], ◌∷◌, ◌++�
 use Rattle.std.specs.Prelude.{IfSome}
 use Rattle.std.proofs.lemmas.List.{append-nil}
 use Rattle.fam_outer.specs.declared.faults.Place.{Place}
-use Rattle.c_tree.specs.Tree.{Code, Done, Input, If, While, Block, Skip, Cond, followed}
+use Rattle.c_tree.specs.Tree.{Term, Code, Done, Input, If, While, Block, Skip, Cond, followed}
 use Rattle.c_grammar.specs.declared.items.Sign.{Sign}
 use Rattle.c_grammar.specs.declared.items.Sign.TheVariants as signs
 use Rattle.c_grammar.specs.declared.items.Item.{Item}
 use Rattle.c_grammar.specs.Ahead.{IsList}
-use Rattle.c_grammar.specs.Grammar.{at, Count, Raise, Lower, count_sign, Callable, of_input, of_function, int32, signed_int, int_signed, Qualifier, Unqualified, Constant, Counted, Qualified, unqualified, const_before, const_behind, LocalDeclarator, uninitialised, Listed, Chained, Writes, none, choice, ends, otherwise, elif, call, void_call, count, prefix_count, skip, block, while, if_else, no_return, return, body, file_of, Forms}
-use Rattle.c_grammar.specs.Machine.{Stack, Top, Braces, Yes, No, ThenOf, ElseOf, LoopOf, Use, ToAssign, ToInitialise, ToUpdate, ToAssert, ToChoose, ToLoop, Pending, OfStatement, OfLocal, TypeWords, OneInt, OneSigned, WholeType, ReadingState, LocalConst, LocalType, LocalNamed, Ended, Wants, Counting, Named, VoidComes, VoidCloses, CallComes, CallOpens, CallCloses, Finishing, folded, else_of, linked, opened, braced, returned, next_part, last_part, group_end, in_list, begin, on, named, counting, local_end, const_word, next_local, behind_local_type, local_type, without_initialiser, local_named, at_open, at_close, finishing, at_void, at_function}
-use Rattle.c_grammar.proofs.Standing.{Begun, Read, InDeclaration, Used, UsedAt, Pends, Piece, one_int, one_signed, whole_type, LocalWords, variable_words, constant_words, Stands}
+use Rattle.c_grammar.specs.Grammar.{at, Count, Raise, Lower, count_sign, Callable, of_input, of_function, count_behind, count_before, no_clause, no_test, int32, signed_int, int_signed, Qualifier, Unqualified, Constant, Counted, Qualified, unqualified, const_before, const_behind, LocalDeclarator, uninitialised, Listed, Chained, Writes, none, choice, ends, otherwise, elif, call, void_call, skip, block, if_else, no_return, return, body, file_of, Forms}
+use Rattle.c_grammar.specs.Machine.{Stack, Top, Braces, Yes, No, ThenOf, ElseOf, LoopOf, Site, AsStatement, AsStart, AsStep, Use, ToAssign, ToInitialise, ToUpdate, ToAssert, ToChoose, ToLoop, ToRepeat, Pending, OfStatement, OfLocal, TypeWords, OneInt, OneSigned, WholeType, ReadingState, LocalConst, LocalType, LocalNamed, Ended, Wants, Counting, Named, ForOpens, StartComes, TestComes, StepComes, VoidComes, VoidCloses, CallComes, CallOpens, CallCloses, Finishing, folded, else_of, linked, opened, braced, returned, next_part, last_part, group_end, in_list, begin, on, named, counting, changing, start_comes, test_comes, step_comes, local_end, const_word, next_local, behind_local_type, local_type, without_initialiser, local_named, at_open, at_close, finishing, at_void, at_function}
+use Rattle.c_grammar.proofs.Standing.{Begun, for_head, Read, AtSite, InDeclaration, UsedAt, Pends, Piece, one_int, one_signed, whole_type, LocalWords, variable_words, constant_words, Stands}
 use Rattle.c_grammar.proofs.Complete.{followed-none}
-use Rattle.c_grammar.proofs.Pieces.{piece, listed, fold_is, declaration_begins, declaration_goes_on, declaration_ends}
+use Rattle.c_grammar.proofs.Pieces.{piece, listed, loops, fold_is, change_pends, change_ends, change_closes, declaration_begins, declaration_goes_on, declaration_ends}
+use Rattle.c_grammar.proofs.SoundExpressions.{want_keeps}
 use Rattle.c_grammar.proofs.SoundFiles.{words_typed}
 
 -- an `else` comes
@@ -26,10 +27,11 @@ else_is (ElseOf p e first outer) c z b ts r s =
     let text : List Item = at p signs.If ∷ at r.0 signs.Open ∷ (r.4 ++ at r.1 signs.Close ∷ (r.5 ++ at r.2 signs.Else ∷ ts)) in
     let is : b ++ (ts ++ at z signs.Else ∷ []) ≡ r.3 ++ (text ++ at z signs.Else ∷ []) = ap (λ (y : List Item). y ++ (ts ++ at z signs.Else ∷ [])) r.9 ∙ simp append_assoc in
     subst (λ (y : List Item). IfSome (else_of outer (If p e first c Done)) (λ next. Stands next y)) (sym is) (else_is outer (If p e first c Done) z r.3 text r.6 (piece false outer text (If p e first c Done) (if_else p r.0 r.1 r.2 r.7 r.8 s)))
-else_is (LoopOf p e outer) c z b ts r s =
-    let text : List Item = at p signs.While ∷ at r.0 signs.Open ∷ (r.3 ++ at r.1 signs.Close ∷ ts) in
-    let is : b ++ (ts ++ at z signs.Else ∷ []) ≡ r.2 ++ (text ++ at z signs.Else ∷ []) = ap (λ (y : List Item). y ++ (ts ++ at z signs.Else ∷ [])) r.6 ∙ simp append_assoc in
-    subst (λ (y : List Item). IfSome (else_of outer (While p e c Done)) (λ next. Stands next y)) (sym is) (else_is outer (While p e c Done) z r.2 text r.4 (piece false outer text (While p e c Done) (while p r.0 r.1 r.5 s)))
+else_is (LoopOf start p e advance outer) c z b ts r s =
+    let text : List Item = r.1 ++ ts in
+    let made : Code = followed start (While p e advance c Done) in
+    let is : b ++ (ts ++ at z signs.Else ∷ []) ≡ r.0 ++ (text ++ at z signs.Else ∷ []) = ap (λ (y : List Item). y ++ (ts ++ at z signs.Else ∷ [])) r.4 ∙ simp append_assoc in
+    subst (λ (y : List Item). IfSome (else_of outer made) (λ next. Stands next y)) (sym is) (else_is outer made z r.0 text r.2 (piece false outer text made (loops r.3 s)))
 
 -- a group ends: its earlier parts are put around the last
 chained : (links : List (ℕ × Code)) (n : ℕ) (us ts : List Item) (first last : Code) → Begun links n us → Writes Listed ts first → (vs : List Item) → Writes Chained vs last → Writes Listed (us ++ (ts ++ vs)) (linked links (Cond n first last Done))
@@ -50,7 +52,7 @@ opened_keeps n (Yes links m made outer) p a r = (a, at p (signs.GroupIf n) ∷ [
 opened_keeps n (No links m first made outer) p a r = (a, at p (signs.GroupIf n) ∷ [], [], r, tt, (p, refl), none, refl)
 opened_keeps n (ThenOf q e outer) p a r = tt
 opened_keeps n (ElseOf q e first outer) p a r = tt
-opened_keeps n (LoopOf q e outer) p a r = tt
+opened_keeps n (LoopOf start q e advance outer) p a r = tt
 
 braced_keeps : (outer : Stack) (p : Place) (a : List Item) → Read outer a → IfSome (braced outer p) (λ next. Stands next (a ++ at p signs.RightBrace ∷ []))
 braced_keeps (Braces q made outer) p a r = (
@@ -110,7 +112,7 @@ in_list_keeps (Yes links n made outer) next a h = h tt
 in_list_keeps (No links n first made outer) next a h = h tt
 in_list_keeps (ThenOf q e outer) next a h = tt
 in_list_keeps (ElseOf q e first outer) next a h = tt
-in_list_keeps (LoopOf q e outer) next a h = tt
+in_list_keeps (LoopOf start q e advance outer) next a h = tt
 
 pub begin_keeps : (outer : Stack) (p : Place) (s : Sign) (a : List Item) → Read outer a → IfSome (begin outer p s) (λ next. Stands next (a ++ at p s ∷ []))
 begin_keeps outer p (signs.Name x) a r = (a, r, refl)
@@ -130,6 +132,7 @@ begin_keeps outer p signs.Assert a r = (a, r, refl)
 begin_keeps outer p signs.Return a r = returned_keeps outer p a r
 begin_keeps outer p signs.If a r = (a, r, refl)
 begin_keeps outer p signs.While a r = (a, r, refl)
+begin_keeps outer p signs.For a r = (p, a, r, refl)
 begin_keeps outer p (signs.GroupIf n) a r = opened_keeps n outer p a r
 begin_keeps outer p (signs.GroupElif n) a r = next_keeps n outer p a r
 begin_keeps outer p signs.GroupElse a r = last_keeps outer p a r
@@ -142,32 +145,63 @@ on_keeps outer c p signs.Else a r =
     subst (λ (y : List Item). IfSome (else_of outer c) (λ next. Stands next y)) (sym is) (else_is outer c p r.0 r.1 r.2 r.3)
 on_keeps outer c p s a r = begin_keeps (folded outer c) p s a (subst (Read (folded outer c)) (sym r.4) (fold_is false outer c r.0 r.1 r.2 r.3))
 
-pub named_keeps : (q : Place) (x : ℕ) (outer : Stack) (p : Place) (s : Sign) (a : List Item) → Stands (Named q x outer) a → IfSome (named q x outer s) (λ next. Stands next (a ++ at p s ∷ []))
-named_keeps q x outer p signs.Equals a r = (p, r.0, r.1, ap (λ (y : List Item). y ++ at p signs.Equals ∷ []) r.2 ∙ append_assoc r.0 (at q (signs.Name x) ∷ []) (at p signs.Equals ∷ []))
-named_keeps q x outer p signs.PlusEquals a r = (p, r.0, r.1, ap (λ (y : List Item). y ++ at p signs.PlusEquals ∷ []) r.2 ∙ append_assoc r.0 (at q (signs.Name x) ∷ []) (at p signs.PlusEquals ∷ []))
-named_keeps q x outer p signs.MinusEquals a r = (p, r.0, r.1, ap (λ (y : List Item). y ++ at p signs.MinusEquals ∷ []) r.2 ∙ append_assoc r.0 (at q (signs.Name x) ∷ []) (at p signs.MinusEquals ∷ []))
-named_keeps q x outer p signs.StarEquals a r = (p, r.0, r.1, ap (λ (y : List Item). y ++ at p signs.StarEquals ∷ []) r.2 ∙ append_assoc r.0 (at q (signs.Name x) ∷ []) (at p signs.StarEquals ∷ []))
-named_keeps q x outer p signs.SlashEquals a r = (p, r.0, r.1, ap (λ (y : List Item). y ++ at p signs.SlashEquals ∷ []) r.2 ∙ append_assoc r.0 (at q (signs.Name x) ∷ []) (at p signs.SlashEquals ∷ []))
-named_keeps q x outer p signs.PercentEquals a r = (p, r.0, r.1, ap (λ (y : List Item). y ++ at p signs.PercentEquals ∷ []) r.2 ∙ append_assoc r.0 (at q (signs.Name x) ∷ []) (at p signs.PercentEquals ∷ []))
-named_keeps q x outer p signs.PlusPlus a r = (r.0, at q (signs.Name x) ∷ at p signs.PlusPlus ∷ [], r.1, (λ s. count q p s x Raise), ap (λ (y : List Item). y ++ at p signs.PlusPlus ∷ []) r.2 ∙ append_assoc r.0 (at q (signs.Name x) ∷ []) (at p signs.PlusPlus ∷ []))
-named_keeps q x outer p signs.MinusMinus a r = (r.0, at q (signs.Name x) ∷ at p signs.MinusMinus ∷ [], r.1, (λ s. count q p s x Lower), ap (λ (y : List Item). y ++ at p signs.MinusMinus ∷ []) r.2 ∙ append_assoc r.0 (at q (signs.Name x) ∷ []) (at p signs.MinusMinus ∷ []))
-named_keeps q x outer p _ a r = tt
+pub named_keeps : (q : Place) (x : ℕ) (site : Site) (p : Place) (s : Sign) (a : List Item) → Stands (Named q x site) a → IfSome (named q x site s) (λ next. Stands next (a ++ at p s ∷ []))
+named_keeps q x site p signs.Equals a r = ((p, r.0, r.1, ap (λ (y : List Item). y ++ at p signs.Equals ∷ []) r.2 ∙ append_assoc r.0 (at q (signs.Name x) ∷ []) (at p signs.Equals ∷ [])), λ z t. tt)
+named_keeps q x site p signs.PlusEquals a r = ((p, r.0, r.1, ap (λ (y : List Item). y ++ at p signs.PlusEquals ∷ []) r.2 ∙ append_assoc r.0 (at q (signs.Name x) ∷ []) (at p signs.PlusEquals ∷ [])), λ z t. tt)
+named_keeps q x site p signs.MinusEquals a r = ((p, r.0, r.1, ap (λ (y : List Item). y ++ at p signs.MinusEquals ∷ []) r.2 ∙ append_assoc r.0 (at q (signs.Name x) ∷ []) (at p signs.MinusEquals ∷ [])), λ z t. tt)
+named_keeps q x site p signs.StarEquals a r = ((p, r.0, r.1, ap (λ (y : List Item). y ++ at p signs.StarEquals ∷ []) r.2 ∙ append_assoc r.0 (at q (signs.Name x) ∷ []) (at p signs.StarEquals ∷ [])), λ z t. tt)
+named_keeps q x site p signs.SlashEquals a r = ((p, r.0, r.1, ap (λ (y : List Item). y ++ at p signs.SlashEquals ∷ []) r.2 ∙ append_assoc r.0 (at q (signs.Name x) ∷ []) (at p signs.SlashEquals ∷ [])), λ z t. tt)
+named_keeps q x site p signs.PercentEquals a r = ((p, r.0, r.1, ap (λ (y : List Item). y ++ at p signs.PercentEquals ∷ []) r.2 ∙ append_assoc r.0 (at q (signs.Name x) ∷ []) (at p signs.PercentEquals ∷ [])), λ z t. tt)
+named_keeps q x site p signs.PlusPlus a r = (r.0, at q (signs.Name x) ∷ at p signs.PlusPlus ∷ [], r.1, change_pends site (count_behind q p x Raise), ap (λ (y : List Item). y ++ at p signs.PlusPlus ∷ []) r.2 ∙ append_assoc r.0 (at q (signs.Name x) ∷ []) (at p signs.PlusPlus ∷ []))
+named_keeps q x site p signs.MinusMinus a r = (r.0, at q (signs.Name x) ∷ at p signs.MinusMinus ∷ [], r.1, change_pends site (count_behind q p x Lower), ap (λ (y : List Item). y ++ at p signs.MinusMinus ∷ []) r.2 ∙ append_assoc r.0 (at q (signs.Name x) ∷ []) (at p signs.MinusMinus ∷ []))
+named_keeps q x site p _ a r = tt
 
-pub counting_keeps : (q : Place) (u : Count) (outer : Stack) (p : Place) (s : Sign) (a : List Item) → Stands (Counting q u outer) a → IfSome (counting q u outer s) (λ next. Stands next (a ++ at p s ∷ []))
-counting_keeps q u outer p (signs.Name x) a r = (r.0, at q (count_sign u) ∷ at p (signs.Name x) ∷ [], r.1, (λ s. prefix_count q p s x u), ap (λ (y : List Item). y ++ at p (signs.Name x) ∷ []) r.2 ∙ append_assoc r.0 (at q (count_sign u) ∷ []) (at p (signs.Name x) ∷ []))
-counting_keeps q u outer p _ a r = tt
+pub counting_keeps : (q : Place) (u : Count) (site : Site) (p : Place) (s : Sign) (a : List Item) → Stands (Counting q u site) a → IfSome (counting q u site s) (λ next. Stands next (a ++ at p s ∷ []))
+counting_keeps q u site p (signs.Name x) a r = (r.0, at q (count_sign u) ∷ at p (signs.Name x) ∷ [], r.1, change_pends site (count_before q p x u), ap (λ (y : List Item). y ++ at p (signs.Name x) ∷ []) r.2 ∙ append_assoc r.0 (at q (count_sign u) ∷ []) (at p (signs.Name x) ∷ []))
+counting_keeps q u site p _ a r = tt
 
-opens_use : (u : Use) (p : Place) (a : List Item) → UsedAt u a → Used u (a ++ at p signs.Open ∷ [])
-opens_use (ToAssign q x outer) p a r = absurd r
+opens_use : (u : Use) (p : Place) (a : List Item) → UsedAt u a → Stands (Wants [] u) (a ++ at p signs.Open ∷ [])
+opens_use (ToAssign q x site) p a r = absurd r
 opens_use (ToInitialise kind q x outer) p a r = absurd r
-opens_use (ToUpdate q x u outer) p a r = absurd r
-opens_use (ToAssert q outer) p a r = (p, r.0, r.1, ap (λ (y : List Item). y ++ at p signs.Open ∷ []) r.2 ∙ append_assoc r.0 (at q signs.Assert ∷ []) (at p signs.Open ∷ []))
-opens_use (ToChoose q outer) p a r = (p, r.0, r.1, ap (λ (y : List Item). y ++ at p signs.Open ∷ []) r.2 ∙ append_assoc r.0 (at q signs.If ∷ []) (at p signs.Open ∷ []))
-opens_use (ToLoop q outer) p a r = (p, r.0, r.1, ap (λ (y : List Item). y ++ at p signs.Open ∷ []) r.2 ∙ append_assoc r.0 (at q signs.While ∷ []) (at p signs.Open ∷ []))
+opens_use (ToUpdate q x u site) p a r = absurd r
+opens_use (ToAssert q outer) p a r = ((p, r.0, r.1, ap (λ (y : List Item). y ++ at p signs.Open ∷ []) r.2 ∙ append_assoc r.0 (at q signs.Assert ∷ []) (at p signs.Open ∷ [])), λ z t. tt)
+opens_use (ToChoose q outer) p a r = ((p, r.0, r.1, ap (λ (y : List Item). y ++ at p signs.Open ∷ []) r.2 ∙ append_assoc r.0 (at q signs.If ∷ []) (at p signs.Open ∷ [])), λ z t. tt)
+opens_use (ToLoop q outer) p a r = ((p, r.0, r.1, ap (λ (y : List Item). y ++ at p signs.Open ∷ []) r.2 ∙ append_assoc r.0 (at q signs.While ∷ []) (at p signs.Open ∷ [])), λ z t. tt)
+opens_use (ToRepeat start q outer) p a r = absurd r
 
 pub opens_keeps : (u : Use) (p : Place) (s : Sign) (a : List Item) → UsedAt u a → IfSome (at_open (Wants [] u) s) (λ next. Stands next (a ++ at p s ∷ []))
 opens_keeps u p signs.Open a r = opens_use u p a r
 opens_keeps u p _ a r = tt
+
+-- ---- the parentheses of a `for`
+
+pub for_opens_keeps : (outer : Stack) (p : Place) (s : Sign) (a : List Item) → Stands (ForOpens outer) a → IfSome (at_open (StartComes outer) s) (λ next. Stands next (a ++ at p s ∷ []))
+for_opens_keeps outer p signs.Open a r = (r.0, p, r.1, r.2, ap (λ (y : List Item). y ++ at p signs.Open ∷ []) r.3 ∙ append_assoc r.1 (at r.0 signs.For ∷ []) (at p signs.Open ∷ []))
+for_opens_keeps outer p _ a r = tt
+
+changing_keeps : (site : Site) (p : Place) (s : Sign) (a : List Item) → AtSite site a → IfSome (changing site p s) (λ next. Stands next (a ++ at p s ∷ []))
+changing_keeps site p (signs.Name x) a r = (a, r, refl)
+changing_keeps site p signs.PlusPlus a r = (a, r, refl)
+changing_keeps site p signs.MinusMinus a r = (a, r, refl)
+changing_keeps site p _ a r = tt
+
+pub start_comes_keeps : (outer : Stack) (p : Place) (s : Sign) (a : List Item) → Stands (StartComes outer) a → IfSome (start_comes outer p s) (λ next. Stands next (a ++ at p s ∷ []))
+start_comes_keeps outer p signs.Semicolon a r = (r.0, r.1, p, r.2, [], r.3, no_clause, ap (λ (y : List Item). y ++ at p signs.Semicolon ∷ []) r.4 ∙ append_assoc r.2 (at r.0 signs.For ∷ at r.1 signs.Open ∷ []) (at p signs.Semicolon ∷ []))
+start_comes_keeps outer p s a r = changing_keeps (AsStart outer) p s a r
+
+pub test_comes_keeps : (start : Code) (outer : Stack) (p : Place) (s : Sign) (a : List Item) → Stands (TestComes start outer) a → IfSome (test_comes start outer p s) (λ next. Stands next (a ++ at p s ∷ []))
+test_comes_keeps start outer p signs.Semicolon a r = (r.0, r.1, r.2, r.3, r.4, at p signs.Semicolon ∷ [], r.5, r.6, no_test p, ap (λ (y : List Item). y ++ at p signs.Semicolon ∷ []) r.7 ∙ simp append_assoc)
+test_comes_keeps start outer p s a r = want_keeps [] (ToRepeat start p outer) p s a r refl
+
+pub step_comes_keeps : (start : Code) (q : Place) (e : Term) (outer : Stack) (p : Place) (s : Sign) (a : List Item) → Stands (StepComes start q e outer) a → IfSome (step_comes start q e outer p s) (λ next. Stands next (a ++ at p s ∷ []))
+step_comes_keeps start q e outer p signs.Close a r = (
+  r.3,
+  at r.0 signs.For ∷ at r.1 signs.Open ∷ (r.4 ++ at r.2 signs.Semicolon ∷ (r.5 ++ at p signs.Close ∷ [])),
+  r.6,
+  for_head r.0 r.1 r.2 p r.7 r.8 no_clause,
+  ap (λ (y : List Item). y ++ at p signs.Close ∷ []) r.9 ∙ simp append_assoc,
+)
+step_comes_keeps start q e outer p s a r = changing_keeps (AsStep start q e outer) p s a r
 
 -- ---- declarations in `main`
 
@@ -222,19 +256,14 @@ uninitialised_keeps Constant q x outer p s a r = tt
 uninitialised_keeps (Counted last) q x outer p s a r = tt
 
 pub local_named_keeps : (kind : Qualifier) (q : Place) (x : ℕ) (outer : Stack) (p : Place) (s : Sign) (a : List Item) → Stands (LocalNamed kind q x outer) a → IfSome (local_named kind q x outer s) (λ next. Stands next (a ++ at p s ∷ []))
-local_named_keeps kind q x outer p signs.Equals a r = (p, r.0, r.1, ap (λ (y : List Item). y ++ at p signs.Equals ∷ []) r.2 ∙ append_assoc r.0 (at q (signs.Name x) ∷ []) (at p signs.Equals ∷ []))
+local_named_keeps kind q x outer p signs.Equals a r = ((p, r.0, r.1, ap (λ (y : List Item). y ++ at p signs.Equals ∷ []) r.2 ∙ append_assoc r.0 (at q (signs.Name x) ∷ []) (at p signs.Equals ∷ [])), λ z t. tt)
 local_named_keeps kind q x outer p s a r = uninitialised_keeps kind q x outer p s a r
 
 -- a statement ends, or a declarator
 pub finishing_keeps : (made : Pending) (p : Place) (s : Sign) (a : List Item) → Stands (Finishing made) a → IfSome (finishing made s) (λ next. Stands next (a ++ at p s ∷ []))
-finishing_keeps (OfStatement outer c) p signs.Semicolon a r = (
-  r.0,
-  r.1 ++ at p signs.Semicolon ∷ [],
-  r.2,
-  piece false outer (r.1 ++ at p signs.Semicolon ∷ []) c (r.3 p),
-  ap (λ (y : List Item). y ++ at p signs.Semicolon ∷ []) r.4 ∙ append_assoc r.0 r.1 (at p signs.Semicolon ∷ []),
-)
-finishing_keeps (OfStatement outer c) p _ a r = tt
+finishing_keeps (OfStatement site c) p signs.Semicolon a r = change_ends site c p a r
+finishing_keeps (OfStatement site c) p signs.Close a r = change_closes site c p a r
+finishing_keeps (OfStatement site c) p _ a r = tt
 finishing_keeps (OfLocal kind outer c) p s a r = local_end_keeps kind outer c p s a r.0 r.1 r.2 r.3 r.4
 
 -- ---- calls
@@ -248,7 +277,7 @@ void_closes_keeps q outer p signs.Close a r = (r.0, p, r.1, r.2, ap (λ (y : Lis
 void_closes_keeps q outer p _ a r = tt
 
 -- the name of the function behind `(void)`
-name_keeps : {f : Sign} (q : Place) (outer : Stack) (p : Place) (a : List Item) → Callable f → Stands (CallComes q outer) a → Stands (CallOpens (OfStatement outer (Skip q Done))) (a ++ at p f ∷ [])
+name_keeps : {f : Sign} (q : Place) (outer : Stack) (p : Place) (a : List Item) → Callable f → Stands (CallComes q outer) a → Stands (CallOpens (OfStatement (AsStatement outer) (Skip q Done))) (a ++ at p f ∷ [])
 name_keeps {f} q outer p a g r = (
   r.2,
   at q signs.Open ∷ at r.0 signs.Void ∷ at r.1 signs.Close ∷ at p f ∷ [],
@@ -257,7 +286,7 @@ name_keeps {f} q outer p a g r = (
   ap (λ (y : List Item). y ++ at p f ∷ []) r.4 ∙ append_assoc r.2 (at q signs.Open ∷ at r.0 signs.Void ∷ at r.1 signs.Close ∷ []) (at p f ∷ []),
 )
 
-pub call_comes_keeps : (q : Place) (outer : Stack) (p : Place) (s : Sign) (a : List Item) → Stands (CallComes q outer) a → IfSome (at_function (CallOpens (OfStatement outer (Skip q Done))) s) (λ next. Stands next (a ++ at p s ∷ []))
+pub call_comes_keeps : (q : Place) (outer : Stack) (p : Place) (s : Sign) (a : List Item) → Stands (CallComes q outer) a → IfSome (at_function (CallOpens (OfStatement (AsStatement outer) (Skip q Done))) s) (λ next. Stands next (a ++ at p s ∷ []))
 call_comes_keeps q outer p signs.Input a r = name_keeps q outer p a of_input r
 call_comes_keeps q outer p (signs.Function k) a r = name_keeps q outer p a (of_function k) r
 call_comes_keeps q outer p _ a r = tt

@@ -3,18 +3,19 @@
 use Rattle.std.proofs.Common.{◌≡◌, ℕ, zero, suc, ◌+◌, ◌≤◌, Bool, true, false, ◌&&◌, List, [], ◌∷◌, ◌++◌, length, Option, Some, None, Result, Ok, refl, sym, ap, subst, ◌∙◌, append_assoc, arith}
 use Rattle.std.specs.Prelude.{nat_le}
 use Rattle.std.proofs.lemmas.Bool.{leb-false, or_parts}
-use Rattle.c_tree.specs.Tree.{Term, Code, Done, If, While, Block, Cond}
+use Rattle.fam_outer.specs.declared.faults.Place.{Place}
+use Rattle.c_tree.specs.Tree.{Term, Code, Done, If, While, Block, Cond, followed}
 use Rattle.c_grammar.specs.declared.items.Sign.TheVariants as signs
 use Rattle.c_grammar.specs.declared.items.Item.{Item}
 use Rattle.c_grammar.specs.Ahead.{IsLooser, Loose, IsList, NoElse}
-use Rattle.c_grammar.specs.Grammar.{at, tighter, Prefix, Positive, Negative, Inverse, prefix_sign, Expresses, number, name, group, prefix, loose, binary, update_sign, Qualifier, LocalDeclarator, Shape, Listed, Stated, Chained, Locals, Writes, File}
+use Rattle.c_grammar.specs.Grammar.{at, tighter, Prefix, Positive, Negative, Inverse, prefix_sign, Expresses, number, name, group, prefix, loose, binary, update_sign, Changes, Clause, Tests, Qualifier, LocalDeclarator, Shape, Listed, Stated, Chained, Locals, Writes, File}
 use Rattle.c_grammar.specs.Grammar as plain
-use Rattle.c_grammar.specs.Machine.{Frame, Paren, Pre, Left, room, Stack, Braces, Yes, No, ThenOf, ElseOf, LoopOf, Use, ToAssign, ToInitialise, ToUpdate, ToAssert, ToChoose, ToLoop, ReadingState, Ready, NextLocal, Ended, Wants, Has, Named, Opens, folded, step}
+use Rattle.c_grammar.specs.Machine.{Frame, Paren, Pre, Left, room, Stack, Braces, Yes, No, ThenOf, ElseOf, LoopOf, Site, AsStatement, AsStart, AsStep, Use, ToAssign, ToInitialise, ToUpdate, ToAssert, ToChoose, ToLoop, ToRepeat, ReadingState, Ready, NextLocal, Ended, Wants, Has, Named, Opens, StartComes, TestComes, StepComes, folded, step}
 use Rattle.c_grammar.specs.Deep.{depth, opens_more, around, counted, is_deep, is_nested, is_long, Fault, went, guarded}
-use Rattle.c_grammar.specs.Within.{operators_in, more_by, Full, LocalWithin, uninitialised, initialised, from_call, WritesIn, none, more, choice, local, last_local, next_local, ends, otherwise, elif, assign, input, call, void_call, update, count, prefix_count, assert, skip, block, while, if_then, if_else}
-use Rattle.c_grammar.proofs.Complete.{Free, free_of, no_else, chain_no_else, locals_named, looser, settled, folded-list}
+use Rattle.c_grammar.specs.Within.{operators_in, more_by, Full, ChangesWithin, assignment, input_taken, compound_assignment, count_behind, count_before, ClauseWithin, no_clause, clause, TestsWithin, no_test, test, LocalWithin, uninitialised, initialised, from_call, WritesIn, none, more, choice, local, last_local, next_local, ends, otherwise, elif, change, call, void_call, assert, skip, block, while, for, if_then, if_else}
+use Rattle.c_grammar.proofs.Complete.{comes, expr_no_semicolon, Free, free_of, no_else, chain_no_else, locals_named, looser, settled, folded-list}
 use Rattle.c_grammar.proofs.CompleteWithin.{takes, prefix_takes, prefix_more, operators_both, expresses_within}
-use Rattle.c_grammar.proofs.StatesWithin.{token, opens_in, group_in, folds_in, depth_folded, full_in, last_token, updates_in, head_in, qualified_in, initialiser_in, next_in, accepted_in}
+use Rattle.c_grammar.proofs.StatesWithin.{token, opens_in, group_in, folds_in, depth_folded, full_in, last_token, updates_in, named_in, last_sign, start_in, step_in, tests_begin, tests_in, head_in, for_in, qualified_in, initialiser_in, next_in, accepted_in}
 
 -- ---- an item that is read
 
@@ -88,6 +89,43 @@ full_back : {ts : List Item} {e : Term} → Expresses 6 ts e → (u : Use) (x : 
 full_back {ts} {e} s u x us w f l h =
     let r = short_of s [] u (omega arith) 0 (omega arith) (x ∷ (us ++ w)) f l (sym (ap (guarded (Wants [] u) 0) (append_assoc ts (x ∷ us) w)) ∙ h) in
     record { expresses = s; short = omega (arith, r) }
+
+then_back : {ts : List Item} {e : Term} → Expresses 6 ts e → (u : Use) (x : Item) (w : List Item) (f : File) → IsLooser 6 x.sign → guarded (Wants [] u) 0 (ts ++ x ∷ w) ≡ Ok f → Full ts e
+then_back {ts} {e} s u x w f l h = let r = short_of s [] u (omega arith) 0 (omega arith) (x ∷ w) f l h in record { expresses = s; short = omega (arith, r) }
+
+-- ---- changes, and what stands in the parentheses of a `for`
+
+last_looser : (site : Site) → IsLooser 6 (last_sign site)
+last_looser (AsStatement outer) = tt
+last_looser (AsStart outer) = tt
+last_looser (AsStep start p e outer) = tt
+
+change_back : {ts : List Item} {c : Code} → Changes ts c → (site : Site) (m : ℕ) (z : Place) (w : List Item) (f : File) → guarded (comes site) m (ts ++ at z (last_sign site) ∷ w) ≡ Ok f → ChangesWithin ts c
+change_back (plain.assignment p q x {ts} s) site m z w f h =
+    let begins =
+    named_in p x site m (at q signs.Equals ∷ (ts ++ at z (last_sign site) ∷ w))
+    ∙ token (Named p x site) (Wants [] (ToAssign p x site)) q signs.Equals 0 (ts ++ at z (last_sign site) ∷ w) refl refl refl in
+    assignment p q x (then_back s (ToAssign p x site) (at z (last_sign site)) w f (last_looser site) (sym begins ∙ h))
+change_back (plain.input_taken p q r s t x g) site m z w f h = input_taken p q r s t x g
+change_back (plain.compound_assignment p q x u {ts} s) site m z w f h =
+    let begins = named_in p x site m (at q (update_sign u) ∷ (ts ++ at z (last_sign site) ∷ w)) ∙ updates_in p q x u site (ts ++ at z (last_sign site) ∷ w) in
+    compound_assignment p q x u (then_back s (ToUpdate p x u site) (at z (last_sign site)) w f (last_looser site) (sym begins ∙ h))
+change_back (plain.count_behind p q x u) site m z w f h = count_behind p q x u
+change_back (plain.count_before p q x u) site m z w f h = count_before p q x u
+
+start_back : {ts : List Item} {c : Code} → Clause ts c → (outer : Stack) (r : Place) (w : List Item) (f : File) → guarded (StartComes outer) 0 (ts ++ at r signs.Semicolon ∷ w) ≡ Ok f → ClauseWithin ts c
+start_back plain.no_clause outer r w f h = no_clause
+start_back (plain.clause s) outer r w f h = clause (change_back s (AsStart outer) 0 r w f h)
+
+step_back : {vs : List Item} {d : Code} → Clause vs d → (start : Code) (p : Place) (e : Term) (outer : Stack) (z : Place) (w : List Item) (f : File) → guarded (StepComes start p e outer) 0 (vs ++ at z signs.Close ∷ w) ≡ Ok f → ClauseWithin vs d
+step_back plain.no_clause start p e outer z w f h = no_clause
+step_back (plain.clause s) start p e outer z w f h = clause (change_back s (AsStep start p e outer) 0 z w f h)
+
+tests_back : {us : List Item} {t : Place} {e : Term} → Tests us t e → (start : Code) (outer : Stack) (w : List Item) (f : File) → guarded (TestComes start outer) 0 (us ++ w) ≡ Ok f → TestsWithin us t e
+tests_back (plain.no_test s) start outer w f h = no_test s
+tests_back (plain.test s {x} {ts} e) start outer w f h =
+    let begins = tests_begin start outer x ((ts ++ at s signs.Semicolon ∷ []) ++ w) (expr_no_semicolon e []) in
+    test s (full_back e (ToRepeat start x.place outer) (at s signs.Semicolon) [] w f tt (sym begins ∙ h))
 
 -- ---- statements
 
@@ -163,21 +201,10 @@ writes_back (plain.elif p i {ts} {us} {c} {d} s t) = λ k links n a outer e m w 
     let h2 = sym (accepted_in first (Yes ((n, a) ∷ links) i Done outer) tt within 0 (us ++ w) (chain_no_else t w)) ∙ h1 in
     let second = writes_back t j.0 ((n, a) ∷ links) i c outer one 0 w f h2 in
     subst (λ (y : ℕ). WritesIn y Chained (at p (signs.GroupElif i) ∷ (ts ++ us)) (Cond i c d Done)) (sym j.1) (elif p i first second)
-writes_back (plain.assign p q r x {ts} {e} s) = λ k outer room_is m w f fr h.
-    let begins =
-    token (Ready outer) (Named p x outer) p (signs.Name x) m (at q signs.Equals ∷ ((ts ++ at r signs.Semicolon ∷ []) ++ w)) refl refl refl
-    ∙ token (Named p x outer) (Wants [] (ToAssign p x outer)) q signs.Equals 0 ((ts ++ at r signs.Semicolon ∷ []) ++ w) refl refl refl in
-    assign p q r x (full_back s (ToAssign p x outer) (at r signs.Semicolon) [] w f tt (sym begins ∙ h))
-writes_back (plain.input p q r s t u x g) = λ k outer e m w f fr h. input p q r s t u x g
+writes_back (plain.change r {ts} s) = λ k outer room_is m w f fr h.
+    change r (change_back s (AsStatement outer) m r w f (sym (ap (guarded (Ready outer) m) (append_assoc ts (at r signs.Semicolon ∷ []) w)) ∙ h))
 writes_back (plain.call p q r s g) = λ k outer e m w f fr h. call p q r s g
 writes_back (plain.void_call p q r s t u v g) = λ k outer e m w f fr h. void_call p q r s t u v g
-writes_back (plain.update p q r x u {ts} {e} s) = λ k outer room_is m w f fr h.
-    let begins =
-    token (Ready outer) (Named p x outer) p (signs.Name x) m (at q (update_sign u) ∷ ((ts ++ at r signs.Semicolon ∷ []) ++ w)) refl refl refl
-    ∙ updates_in p q x u outer ((ts ++ at r signs.Semicolon ∷ []) ++ w) in
-    update p q r x u (full_back s (ToUpdate p x u outer) (at r signs.Semicolon) [] w f tt (sym begins ∙ h))
-writes_back (plain.count p q r x u) = λ k outer e m w f fr h. count p q r x u
-writes_back (plain.prefix_count p q r x u) = λ k outer e m w f fr h. prefix_count p q r x u
 writes_back (plain.assert p q r z {ts} {e} s) = λ k outer room_is m w f fr h.
     let begins =
     token (Ready outer) (Opens (ToAssert p outer)) p signs.Assert m (at q signs.Open ∷ ((ts ++ at r signs.Close ∷ at z signs.Semicolon ∷ []) ++ w)) refl refl refl
@@ -199,9 +226,26 @@ writes_back (plain.while p q r {b} {ts} {us} {e} {c} s t) = λ k outer room_is m
     let one : j.0 + suc (depth outer) ≡ 64 = omega (arith, room_is, j.1) in
     let h1 = sym (head_in (ToLoop p outer) outer p q signs.While m ((ts ++ at r signs.Close ∷ us) ++ w) refl le) ∙ h in
     let full = full_back s (ToLoop p outer) (at r signs.Close) us w f tt h1 in
-    let h2 = sym (full_in full (ToLoop p outer) (at r signs.Close) us w tt ∙ last_token full (ToLoop p outer) (Ready (LoopOf p e outer)) r signs.Close (us ++ w) refl refl refl refl) ∙ h1 in
-    let inner = writes_back t j.0 (LoopOf p e outer) one 0 w f fr h2 in
-    subst (λ (y : ℕ). WritesIn y (Stated b) (at p signs.While ∷ at q signs.Open ∷ (ts ++ at r signs.Close ∷ us)) (While p e c Done)) (sym j.1) (while p q r full inner)
+    let h2 = sym (full_in full (ToLoop p outer) (at r signs.Close) us w tt ∙ last_token full (ToLoop p outer) (Ready (LoopOf Done p e Done outer)) r signs.Close (us ++ w) refl refl refl refl) ∙ h1 in
+    let inner = writes_back t j.0 (LoopOf Done p e Done outer) one 0 w f fr h2 in
+    subst (λ (y : ℕ). WritesIn y (Stated b) (at p signs.While ∷ at q signs.Open ∷ (ts ++ at r signs.Close ∷ us)) (While p e Done c Done)) (sym j.1) (while p q r full inner)
+writes_back (plain.for p q r z {b} {ts} {us} {vs} {ws} {start} {step = advance} {c} {t} {e} a g d s) = λ k outer room_is m w f fr h.
+    let text : List Item = ts ++ at r signs.Semicolon ∷ (us ++ (vs ++ at z signs.Close ∷ ws)) in
+    let rest : List Item = us ++ (vs ++ at z signs.Close ∷ (ws ++ w)) in
+    let re : text ++ w ≡ ts ++ at r signs.Semicolon ∷ rest = simp append_assoc in
+    let le : suc (depth outer) ≤ 64 = opens_few (Ready outer) m (at p signs.For) (at q signs.Open ∷ (text ++ w)) f refl h in
+    let j = room_for k (depth outer) room_is le in
+    let one : j.0 + suc (depth outer) ≡ 64 = omega (arith, room_is, j.1) in
+    let begins = ap (λ (l : List Item). guarded (Ready outer) m (at p signs.For ∷ at q signs.Open ∷ l)) re ∙ for_in outer p q m (ts ++ at r signs.Semicolon ∷ rest) le in
+    let h1 = sym begins ∙ h in
+    let first = start_back a outer r rest f h1 in
+    let h2 = sym (start_in first outer r rest) ∙ h1 in
+    let tests = tests_back g start outer (vs ++ at z signs.Close ∷ (ws ++ w)) f h2 in
+    let h3 = sym (tests_in tests start outer (vs ++ at z signs.Close ∷ (ws ++ w))) ∙ h2 in
+    let last = step_back d start t e outer z (ws ++ w) f h3 in
+    let h4 = sym (step_in last start t e outer z (ws ++ w)) ∙ h3 in
+    let inner = writes_back s j.0 (LoopOf start t e advance outer) one 0 w f fr h4 in
+    subst (λ (y : ℕ). WritesIn y (Stated b) (at p signs.For ∷ at q signs.Open ∷ text) (followed start (While t e advance c Done))) (sym j.1) (for p q r z first tests last inner)
 writes_back (plain.if_then p q r {b} {ts} {us} {e} {c} s t) = λ k outer room_is m w f fr h.
     let le : suc (depth outer) ≤ 64 = opens_few (Ready outer) m (at p signs.If) (at q signs.Open ∷ ((ts ++ at r signs.Close ∷ us) ++ w)) f refl h in
     let j = room_for k (depth outer) room_is le in

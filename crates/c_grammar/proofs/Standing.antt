@@ -3,13 +3,13 @@ use Rattle.std.proofs.Common.{◌≡◌, ℕ, ℤ, suc, ◌<◌, Bool, false, Li
 use Rattle.fam_outer.specs.declared.faults.Place.{Place}
 use Rattle.c_tree.specs.declared.tree.Op.TheVariants.{Sub}
 use Rattle.c_tree.specs.declared.lists.Declared.{Declared}
-use Rattle.c_tree.specs.Tree.{Code, Done, Skip, followed}
+use Rattle.c_tree.specs.Tree.{Term, Code, Done, Skip, followed}
 use Rattle.c_grammar.specs.declared.items.Sign.{Sign}
 use Rattle.c_grammar.specs.declared.items.Sign.TheVariants as signs
 use Rattle.c_grammar.specs.declared.items.Item.{Item}
 use Rattle.c_grammar.specs.Ahead.{IsList}
-use Rattle.c_grammar.specs.Grammar.{at, tighter, prefix_sign, Expresses, update_sign, count_sign, Callable, Listed, Stated, Locals, LocalDeclarator, Writes, Optional, Typed, Qualifier, Unqualified, Constant, Counted, Begins, Declarator, Defines, with_true, with_false, Outer, Vars, Later, Declares, Gaps, GapRest, Empty, Body, Main, File, file_of, Forms}
-use Rattle.c_grammar.specs.Machine.{Tailing, Another, Final, Frame, Paren, Pre, Left, room, Stack, Top, Braces, Yes, No, ThenOf, ElseOf, LoopOf, Use, ToAssign, ToInitialise, ToUpdate, ToAssert, ToChoose, ToLoop, Pending, OfStatement, OfLocal, Sections, Outermost, InPart, InLast, guards_of, Aim, ToPrototype, ToMain, ReadingState, Outside, AfterStatic, AfterExtern, AfterConst, AfterEnum, AfterVoidType, AfterType, Leading, NoWord, StaticWord, ExternWord, ConstWord, TypeWords, OneInt, OneSigned, WholeType, Declaring, Bare, Starting, Negating, Started, Listing, Enumerated, AfterDefine, Defining, NegativeDefining, Enclosing, NegativeEnclosing, Enclosed, Parameters, InParameters, AfterVoid, AfterParameters, Ready, LocalConst, LocalType, NextLocal, LocalNamed, Ended, Wants, Has, Counting, Named, Opens, VoidComes, VoidCloses, CallComes, CallOpens, CallCloses, Finishing, Returning, Returned, Closing, Over, folded}
+use Rattle.c_grammar.specs.Grammar.{at, tighter, prefix_sign, Expresses, update_sign, count_sign, Callable, Changes, Clause, Tests, Listed, Stated, Locals, LocalDeclarator, Writes, Optional, Typed, Qualifier, Unqualified, Constant, Counted, Begins, Declarator, Defines, with_true, with_false, Outer, Vars, Later, Declares, Gaps, GapRest, Empty, Body, Main, File, file_of, Forms}
+use Rattle.c_grammar.specs.Machine.{Tailing, Another, Final, Frame, Paren, Pre, Left, room, Stack, Top, Braces, Yes, No, ThenOf, ElseOf, LoopOf, Site, AsStatement, AsStart, AsStep, Use, ToAssign, ToInitialise, ToUpdate, ToAssert, ToChoose, ToLoop, ToRepeat, Pending, OfStatement, OfLocal, Sections, Outermost, InPart, InLast, guards_of, Aim, ToPrototype, ToMain, ReadingState, Outside, AfterStatic, AfterExtern, AfterConst, AfterEnum, AfterVoidType, AfterType, Leading, NoWord, StaticWord, ExternWord, ConstWord, TypeWords, OneInt, OneSigned, WholeType, Declaring, Bare, Starting, Negating, Started, Listing, Enumerated, AfterDefine, Defining, NegativeDefining, Enclosing, NegativeEnclosing, Enclosed, Parameters, InParameters, AfterVoid, AfterParameters, Ready, LocalConst, LocalType, NextLocal, LocalNamed, Ended, Wants, Has, Counting, Named, Opens, ForOpens, StartComes, TestComes, StepComes, VoidComes, VoidCloses, CallComes, CallOpens, CallCloses, Finishing, Returning, Returned, Closing, Over, folded}
 
 -- the parts of a group before this one, and its directive
 abbrev pub Begun : List (ℕ × Code) → ℕ → List Item → Type 0
@@ -20,6 +20,11 @@ Begun (l ∷ links) n a = (p : Place) × (b ts : List Item) × Begun links l.0 b
 abbrev pub Headed : List Item → List Declared → Type 0
 Headed b ds = (us : List Item) (c : Code) (q : Place) → Body us c q → Forms (b ++ us) (file_of ds c q)
 
+-- what stands before the body of a loop, with what it does before its first test, its place, its test and its step
+pub data LoopHead : Code → Place → Term → Code → List Item → Type 0 where
+  while_head : (p q r : Place) {ts : List Item} {e : Term} → Expresses 6 ts e → LoopHead Done p e Done (at p signs.While ∷ at q signs.Open ∷ (ts ++ at r signs.Close ∷ []))
+  for_head : (p q r s : Place) {ts us vs : List Item} {start advance : Code} {t : Place} {e : Term} → Clause ts start → Tests us t e → Clause vs advance → LoopHead start t e advance (at p signs.For ∷ at q signs.Open ∷ (ts ++ at r signs.Semicolon ∷ (us ++ (vs ++ at s signs.Close ∷ []))))
+
 abbrev pub Read : Stack → List Item → Type 0
 Read (Top ds made) a = (b ts : List Item) × Headed b ds × Writes Listed ts made × (a ≡ b ++ ts)
 Read (Braces p made outer) a = (b ts : List Item) × Read outer b × Writes Listed ts made × (a ≡ b ++ (at p signs.LeftBrace ∷ ts))
@@ -27,7 +32,23 @@ Read (Yes links n made outer) a = (b us ts : List Item) × Read outer b × IsLis
 Read (No links n first made outer) a = (b us vs ts : List Item) × (p : Place) × Read outer b × IsList outer × Begun links n us × Writes Listed vs first × Writes Listed ts made × (a ≡ b ++ (us ++ (vs ++ at p signs.GroupElse ∷ ts)))
 Read (ThenOf p e outer) a = (q r : Place) × (b ts : List Item) × Read outer b × Expresses 6 ts e × (a ≡ b ++ (at p signs.If ∷ at q signs.Open ∷ (ts ++ at r signs.Close ∷ [])))
 Read (ElseOf p e first outer) a = (q r z : Place) × (b ts us : List Item) × Read outer b × Expresses 6 ts e × Writes (Stated false) us first × (a ≡ b ++ (at p signs.If ∷ at q signs.Open ∷ (ts ++ at r signs.Close ∷ (us ++ at z signs.Else ∷ []))))
-Read (LoopOf p e outer) a = (q r : Place) × (b ts : List Item) × Read outer b × Expresses 6 ts e × (a ≡ b ++ (at p signs.While ∷ at q signs.Open ∷ (ts ++ at r signs.Close ∷ [])))
+Read (LoopOf start p e advance outer) a = (b ts : List Item) × Read outer b × LoopHead start p e advance ts × (a ≡ b ++ ts)
+
+-- in the parentheses of a `for`: before what stands before its first test; before its test; behind its test
+abbrev pub InStart : Stack → List Item → Type 0
+InStart outer a = (p q : Place) × (b : List Item) × Read outer b × (a ≡ b ++ (at p signs.For ∷ at q signs.Open ∷ []))
+
+abbrev pub InTest : Code → Stack → List Item → Type 0
+InTest start outer a = (p q r : Place) × (b ts : List Item) × Read outer b × Clause ts start × (a ≡ b ++ (at p signs.For ∷ at q signs.Open ∷ (ts ++ at r signs.Semicolon ∷ [])))
+
+abbrev pub InStep : Code → Place → Term → Stack → List Item → Type 0
+InStep start t e outer a = (p q r : Place) × (b ts us : List Item) × Read outer b × Clause ts start × Tests us t e × (a ≡ b ++ (at p signs.For ∷ at q signs.Open ∷ (ts ++ at r signs.Semicolon ∷ us)))
+
+-- before a change
+abbrev pub AtSite : Site → List Item → Type 0
+AtSite (AsStatement outer) a = Read outer a
+AtSite (AsStart outer) a = InStart outer a
+AtSite (AsStep start p e outer) a = InStep start p e outer a
 
 -- a declaration in `main` up to a name: the stack before it and its items, what its declarators so far make, and that those which may
 -- come next make a list with them
@@ -43,34 +64,57 @@ pub record InDeclaration (kind : Qualifier) (outer : Stack) (a : List Item) : Ty
   pub parts : a ≡ start ++ text
 
 abbrev pub Used : Use → List Item → Type 0
-Used (ToAssign p x outer) a = (q : Place) × (b : List Item) × Read outer b × (a ≡ b ++ (at p (signs.Name x) ∷ at q signs.Equals ∷ []))
+Used (ToAssign p x site) a = (q : Place) × (b : List Item) × AtSite site b × (a ≡ b ++ (at p (signs.Name x) ∷ at q signs.Equals ∷ []))
 Used (ToInitialise kind p x outer) a = (q : Place) × (b : List Item) × InDeclaration kind outer b × (a ≡ b ++ (at p (signs.Name x) ∷ at q signs.Equals ∷ []))
-Used (ToUpdate p x u outer) a = (q : Place) × (b : List Item) × Read outer b × (a ≡ b ++ (at p (signs.Name x) ∷ at q (update_sign u) ∷ []))
+Used (ToUpdate p x u site) a = (q : Place) × (b : List Item) × AtSite site b × (a ≡ b ++ (at p (signs.Name x) ∷ at q (update_sign u) ∷ []))
 Used (ToAssert p outer) a = (q : Place) × (b : List Item) × Read outer b × (a ≡ b ++ (at p signs.Assert ∷ at q signs.Open ∷ []))
 Used (ToChoose p outer) a = (q : Place) × (b : List Item) × Read outer b × (a ≡ b ++ (at p signs.If ∷ at q signs.Open ∷ []))
 Used (ToLoop p outer) a = (q : Place) × (b : List Item) × Read outer b × (a ≡ b ++ (at p signs.While ∷ at q signs.Open ∷ []))
+Used (ToRepeat start p outer) a = InTest start outer a
 
 abbrev pub UsedAt : Use → List Item → Type 0
-UsedAt (ToAssign p x outer) a = ⊥
+UsedAt (ToAssign p x site) a = ⊥
 UsedAt (ToInitialise kind p x outer) a = ⊥
-UsedAt (ToUpdate p x u outer) a = ⊥
+UsedAt (ToUpdate p x u site) a = ⊥
 UsedAt (ToAssert p outer) a = (b : List Item) × Read outer b × (a ≡ b ++ at p signs.Assert ∷ [])
 UsedAt (ToChoose p outer) a = (b : List Item) × Read outer b × (a ≡ b ++ at p signs.If ∷ [])
 UsedAt (ToLoop p outer) a = (b : List Item) × Read outer b × (a ≡ b ++ at p signs.While ∷ [])
+UsedAt (ToRepeat start p outer) a = ⊥
+
+-- the first item has this place
+abbrev pub StartsAt : Place → List Item → Type 0
+StartsAt p [] = ⊥
+StartsAt p (x ∷ w) = x.place ≡ p
+
+-- the test of a `for` starts at the place of its loop
+abbrev pub Starts : Use → List Item → Type 0
+Starts (ToRepeat start p outer) ts = StartsAt p ts
+Starts _ ts = Unit {0}
+
+-- these items of an expression are its first where no frame stands before them
+abbrev pub Leads : Use → List Frame → List Item → Type 0
+Leads u [] ts = Starts u ts
+Leads u (f ∷ fs) ts = Unit {0}
 
 abbrev pub Framed : Use → List Frame → List Item → Type 0
 Framed u [] a = Used u a
-Framed u (Paren ∷ fs) a = (p : Place) × (b : List Item) × Framed u fs b × (a ≡ b ++ at p signs.Open ∷ [])
-Framed u (Pre v ∷ fs) a = (p : Place) × (b : List Item) × Framed u fs b × (a ≡ b ++ at p (prefix_sign v) ∷ [])
-Framed u (Left op x ∷ fs) a = (p : Place) × (b us : List Item) × Framed u fs b × Expresses (suc (tighter op)) us x × (tighter op < room fs) × (a ≡ b ++ (us ++ at p (signs.Oper op) ∷ []))
+Framed u (Paren ∷ fs) a = (p : Place) × (b : List Item) × Framed u fs b × Leads u fs (at p signs.Open ∷ []) × (a ≡ b ++ at p signs.Open ∷ [])
+Framed u (Pre v ∷ fs) a = (p : Place) × (b : List Item) × Framed u fs b × Leads u fs (at p (prefix_sign v) ∷ []) × (a ≡ b ++ at p (prefix_sign v) ∷ [])
+Framed u (Left op x ∷ fs) a = (p : Place) × (b us : List Item) × Framed u fs b × Leads u fs us × Expresses (suc (tighter op)) us x × (tighter op < room fs) × (a ≡ b ++ (us ++ at p (signs.Oper op) ∷ []))
 
 -- what stands before what is pending, and its own items
 abbrev pub StandsBefore : Pending → List Item → Type 0
-StandsBefore (OfStatement outer c) b = Read outer b
+StandsBefore (OfStatement site c) b = AtSite site b
 StandsBefore (OfLocal kind outer c) b = InDeclaration kind outer b
 
+-- a statement but for its semicolon, or a change in a `for`
+abbrev pub PendsAt : Site → Code → List Item → Type 0
+PendsAt (AsStatement outer) c ts = (s : Place) → Writes (Stated false) (ts ++ at s signs.Semicolon ∷ []) c
+PendsAt (AsStart outer) c ts = Changes ts c
+PendsAt (AsStep start p e outer) c ts = Changes ts c
+
 abbrev pub Pends : Pending → List Item → Type 0
-Pends (OfStatement outer c) ts = (s : Place) → Writes (Stated false) (ts ++ at s signs.Semicolon ∷ []) c
+Pends (OfStatement site c) ts = PendsAt site c ts
 Pends (OfLocal kind outer c) ts = LocalDeclarator kind ts c
 
 -- what is put into the stack: in a list any list, elsewhere one statement
@@ -81,7 +125,7 @@ Piece d (Yes links n made outer) ts c = Writes Listed ts c
 Piece d (No links n first made outer) ts c = Writes Listed ts c
 Piece d (ThenOf p e outer) ts c = Writes (Stated d) ts c
 Piece d (ElseOf p e first outer) ts c = Writes (Stated d) ts c
-Piece d (LoopOf p e outer) ts c = Writes (Stated d) ts c
+Piece d (LoopOf start p e advance outer) ts c = Writes (Stated d) ts c
 
 -- ---- what may come next
 
@@ -176,11 +220,15 @@ Stands (LocalType kind words outer) a = (b us : List Item) × Read outer b × Is
 Stands (NextLocal kind outer) a = InDeclaration kind outer a
 Stands (LocalNamed kind p x outer) a = (b : List Item) × InDeclaration kind outer b × (a ≡ b ++ at p (signs.Name x) ∷ [])
 Stands (Ended outer c) a = (b ts : List Item) × Read outer b × Piece false outer ts c × (a ≡ b ++ ts)
-Stands (Wants fs u) a = Framed u fs a
-Stands (Has fs u e) a = (b ts : List Item) × Framed u fs b × Expresses 0 ts e × (a ≡ b ++ ts)
-Stands (Counting p u outer) a = (b : List Item) × Read outer b × (a ≡ b ++ at p (count_sign u) ∷ [])
-Stands (Named p x outer) a = (b : List Item) × Read outer b × (a ≡ b ++ at p (signs.Name x) ∷ [])
+Stands (Wants fs u) a = Framed u fs a × ((p : Place) (s : Sign) → Leads u fs (at p s ∷ []))
+Stands (Has fs u e) a = (b ts : List Item) × Framed u fs b × Leads u fs ts × Expresses 0 ts e × (a ≡ b ++ ts)
+Stands (Counting p u site) a = (b : List Item) × AtSite site b × (a ≡ b ++ at p (count_sign u) ∷ [])
+Stands (Named p x site) a = (b : List Item) × AtSite site b × (a ≡ b ++ at p (signs.Name x) ∷ [])
 Stands (Opens u) a = UsedAt u a
+Stands (ForOpens outer) a = (p : Place) × (b : List Item) × Read outer b × (a ≡ b ++ at p signs.For ∷ [])
+Stands (StartComes outer) a = InStart outer a
+Stands (TestComes start outer) a = InTest start outer a
+Stands (StepComes start p e outer) a = InStep start p e outer a
 Stands (VoidComes p outer) a = (b : List Item) × Read outer b × (a ≡ b ++ at p signs.Open ∷ [])
 Stands (VoidCloses p outer) a = (q : Place) × (b : List Item) × Read outer b × (a ≡ b ++ (at p signs.Open ∷ at q signs.Void ∷ []))
 Stands (CallComes p outer) a = (q r : Place) × (b : List Item) × Read outer b × (a ≡ b ++ (at p signs.Open ∷ at q signs.Void ∷ at r signs.Close ∷ []))

@@ -23,7 +23,7 @@ IsList (Yes links n made outer) = Unit {0}
 IsList (No links n first made outer) = Unit {0}
 IsList (ThenOf p e outer) = ⊥
 IsList (ElseOf p e first outer) = ⊥
-IsList (LoopOf p e outer) = ⊥
+IsList (LoopOf start p e advance outer) = ⊥
 
 abbrev pub IsNoElse : Sign → Type 0
 IsNoElse signs.Else = ⊥

@@ -5,7 +5,7 @@ use Rattle.c_grammar.specs.declared.items.Sign.{Sign}
 use Rattle.c_grammar.specs.declared.items.Sign.TheVariants as signs
 use Rattle.c_grammar.specs.declared.items.Item.{Item}
 use Rattle.c_grammar.specs.Grammar.{File}
-use Rattle.c_grammar.specs.Machine.{Stack, Top, Braces, Yes, No, ThenOf, ElseOf, LoopOf, Sections, guards_of, Tailing, Another, Final, ReadingState, Outside, Ready, Ended, Wants, Has, Over, step, finish, folded}
+use Rattle.c_grammar.specs.Machine.{Stack, Top, Braces, Yes, No, ThenOf, ElseOf, LoopOf, Sections, guards_of, Tailing, Another, Final, ReadingState, Outside, Ready, Ended, Wants, Has, TestComes, Over, step, finish, folded}
 
 -- ---- statements and groups
 
@@ -17,7 +17,7 @@ depth (Yes links n made outer) = suc (length links) + depth outer
 depth (No links n first made outer) = suc (length links) + depth outer
 depth (ThenOf p e outer) = suc (depth outer)
 depth (ElseOf p e first outer) = suc (depth outer)
-depth (LoopOf p e outer) = suc (depth outer)
+depth (LoopOf start p e advance outer) = suc (depth outer)
 
 -- the same around declarations, where each `#if` and `#elif` so far has left a guard
 abbrev pub section_depth : Sections → ℕ
@@ -40,6 +40,7 @@ around _ = 0
 abbrev pub opens_more : Sign → Bool
 opens_more signs.If = true
 opens_more signs.While = true
+opens_more signs.For = true
 opens_more signs.LeftBrace = true
 opens_more (signs.GroupIf n) = true
 opens_more (signs.GroupElif n) = true
@@ -57,15 +58,21 @@ is_operator signs.Bang = true
 is_operator signs.Open = true
 is_operator _ = false
 
--- the item belongs to an expression
+-- the item belongs to an expression; that behind the start of a `for` may be the first of one
 abbrev pub in_expression : ReadingState → Bool
 in_expression (Wants fs u) = true
 in_expression (Has fs u e) = true
+in_expression (TestComes start outer) = true
 in_expression _ = false
+
+-- how many the expression has so far: the test of a `for` is one of its own
+abbrev pub so_far : ReadingState → ℕ → ℕ
+so_far (TestComes start outer) count = 0
+so_far _ count = count
 
 -- how many operators and opening parentheses the expression has, with this item
 abbrev pub counted : ReadingState → Sign → ℕ → ℕ
-counted state s count = if in_expression state then (if is_operator s then suc count else count) else 0
+counted state s count = if in_expression state then (if is_operator s then suc (so_far state count) else so_far state count) else 0
 
 abbrev pub is_long : ReadingState → Sign → ℕ → Bool
 is_long state s count = nat_le 65 (counted state s count)

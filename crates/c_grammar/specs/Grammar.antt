@@ -110,6 +110,26 @@ pub data Callable : Sign → Type 0 where
   of_input : Callable signs.Input
   of_function : (k : ℕ) → Callable (signs.Function k)
 
+-- a change of a variable, read as a statement at its first token: an assignment (6.5.16), of an expression or of an input, a
+-- compound one, and a step by one, behind the name or before it
+pub data Changes : List Item → Code → Type 0 where
+  assignment : (p q : Place) (x : ℕ) {ts : List Item} {e : Term} → Expresses 6 ts e → Changes (at p (signs.Name x) ∷ at q signs.Equals ∷ ts) (Assign p x e Done)
+  input_taken : (p q r s t : Place) (x : ℕ) {f : Sign} → Callable f → Changes (at p (signs.Name x) ∷ at q signs.Equals ∷ at r f ∷ at s signs.Open ∷ at t signs.Close ∷ []) (Input p x Done)
+  compound_assignment : (p q : Place) (x : ℕ) (u : Update) {ts : List Item} {e : Term} → Expresses 6 ts e → Changes (at p (signs.Name x) ∷ at q (update_sign u) ∷ ts) (updated p x u e)
+  count_behind : (p q : Place) (x : ℕ) (u : Count) → Changes (at p (signs.Name x) ∷ at q (count_sign u) ∷ []) (changed_by_one p x u)
+  count_before : (p q : Place) (x : ℕ) (u : Count) → Changes (at p (count_sign u) ∷ at q (signs.Name x) ∷ []) (changed_by_one p x u)
+
+-- what a `for` (6.8.5.3) does before its first test, and behind its body: nothing, or a change
+pub data Clause : List Item → Code → Type 0 where
+  no_clause : Clause [] Done
+  clause : {ts : List Item} {c : Code} → Changes ts c → Clause ts c
+
+-- the test of a `for` up to its semicolon, and the place of the loop, which is that of the first token; an absent one is 1, at the
+-- semicolon
+pub data Tests : List Item → Place → Term → Type 0 where
+  no_test : (s : Place) → Tests (at s signs.Semicolon ∷ []) s (Number (pos 1))
+  test : (s : Place) {x : Item} {ts : List Item} {e : Term} → Expresses 6 (x ∷ ts) e → Tests (x ∷ (ts ++ at s signs.Semicolon ∷ [])) x.place e
+
 -- at most one item, with this sign
 pub data Optional : Sign → List Item → Type 0 where
   absent : (s : Sign) → Optional s []
@@ -151,8 +171,8 @@ pub data Shape : Type 0 where
   Chained : Shape
   Locals : (kind : Qualifier) → Shape
 
--- a statement is a list of one, and an absent `else` is the empty list; `#elif` opens a choice in the no side; a declaration is
--- a list of a statement for each of its declarators
+-- a statement is a list of one, and a `for` a list of its loop, behind the change before the first test; an absent `else` is the
+-- empty list; `#elif` opens a choice in the no side; a declaration is a list of a statement for each of its declarators
 pub data Writes : Shape → List Item → Code → Type 0 where
   none : Writes Listed [] Done
   more : {b : Bool} {ts us : List Item} {c d : Code} → Writes (Stated b) ts c → Writes Listed us d → Writes Listed (ts ++ us) (followed c d)
@@ -163,17 +183,14 @@ pub data Writes : Shape → List Item → Code → Type 0 where
   ends : (p : Place) → Writes Chained (at p signs.GroupEnd ∷ []) Done
   otherwise : (p q : Place) {ts : List Item} {c : Code} → Writes Listed ts c → Writes Chained (at p signs.GroupElse ∷ (ts ++ at q signs.GroupEnd ∷ [])) c
   elif : (p : Place) (n : ℕ) {ts us : List Item} {c d : Code} → Writes Listed ts c → Writes Chained us d → Writes Chained (at p (signs.GroupElif n) ∷ (ts ++ us)) (Cond n c d Done)
-  assign : (p q r : Place) (x : ℕ) {ts : List Item} {e : Term} → Expresses 6 ts e → Writes (Stated false) (at p (signs.Name x) ∷ at q signs.Equals ∷ (ts ++ at r signs.Semicolon ∷ [])) (Assign p x e Done)
-  input : (p q r s t u : Place) (x : ℕ) {f : Sign} → Callable f → Writes (Stated false) (at p (signs.Name x) ∷ at q signs.Equals ∷ at r f ∷ at s signs.Open ∷ at t signs.Close ∷ at u signs.Semicolon ∷ []) (Input p x Done)
+  change : (r : Place) {ts : List Item} {c : Code} → Changes ts c → Writes (Stated false) (ts ++ at r signs.Semicolon ∷ []) c
   call : (p q r s : Place) {f : Sign} → Callable f → Writes (Stated false) (at p f ∷ at q signs.Open ∷ at r signs.Close ∷ at s signs.Semicolon ∷ []) (Skip p Done)
   void_call : (p q r s t u v : Place) {f : Sign} → Callable f → Writes (Stated false) (at p signs.Open ∷ at q signs.Void ∷ at r signs.Close ∷ at s f ∷ at t signs.Open ∷ at u signs.Close ∷ at v signs.Semicolon ∷ []) (Skip p Done)
-  update : (p q r : Place) (x : ℕ) (u : Update) {ts : List Item} {e : Term} → Expresses 6 ts e → Writes (Stated false) (at p (signs.Name x) ∷ at q (update_sign u) ∷ (ts ++ at r signs.Semicolon ∷ [])) (updated p x u e)
-  count : (p q r : Place) (x : ℕ) (u : Count) → Writes (Stated false) (at p (signs.Name x) ∷ at q (count_sign u) ∷ at r signs.Semicolon ∷ []) (changed_by_one p x u)
-  prefix_count : (p q r : Place) (x : ℕ) (u : Count) → Writes (Stated false) (at p (count_sign u) ∷ at q (signs.Name x) ∷ at r signs.Semicolon ∷ []) (changed_by_one p x u)
   assert : (p q r s : Place) {ts : List Item} {e : Term} → Expresses 6 ts e → Writes (Stated false) (at p signs.Assert ∷ at q signs.Open ∷ (ts ++ at r signs.Close ∷ at s signs.Semicolon ∷ [])) (Assert p e Done)
   skip : (p : Place) → Writes (Stated false) (at p signs.Semicolon ∷ []) (Skip p Done)
   block : (p q : Place) {ts : List Item} {c : Code} → Writes Listed ts c → Writes (Stated false) (at p signs.LeftBrace ∷ (ts ++ at q signs.RightBrace ∷ [])) (Block p c Done)
-  while : (p q r : Place) {b : Bool} {ts us : List Item} {e : Term} {c : Code} → Expresses 6 ts e → Writes (Stated b) us c → Writes (Stated b) (at p signs.While ∷ at q signs.Open ∷ (ts ++ at r signs.Close ∷ us)) (While p e c Done)
+  while : (p q r : Place) {b : Bool} {ts us : List Item} {e : Term} {c : Code} → Expresses 6 ts e → Writes (Stated b) us c → Writes (Stated b) (at p signs.While ∷ at q signs.Open ∷ (ts ++ at r signs.Close ∷ us)) (While p e Done c Done)
+  for : (p q r s : Place) {b : Bool} {ts us vs ws : List Item} {start step c : Code} {t : Place} {e : Term} → Clause ts start → Tests us t e → Clause vs step → Writes (Stated b) ws c → Writes (Stated b) (at p signs.For ∷ at q signs.Open ∷ (ts ++ at r signs.Semicolon ∷ (us ++ (vs ++ at s signs.Close ∷ ws)))) (followed start (While t e step c Done))
   if_then : (p q r : Place) {b : Bool} {ts us : List Item} {e : Term} {c : Code} → Expresses 6 ts e → Writes (Stated b) us c → Writes (Stated true) (at p signs.If ∷ at q signs.Open ∷ (ts ++ at r signs.Close ∷ us)) (If p e c Done Done)
   if_else : (p q r s : Place) {b : Bool} {ts us vs : List Item} {e : Term} {c d : Code} → Expresses 6 ts e → Writes (Stated false) us c → Writes (Stated b) vs d → Writes (Stated b) (at p signs.If ∷ at q signs.Open ∷ (ts ++ at r signs.Close ∷ (us ++ at s signs.Else ∷ vs))) (If p e c d Done)
 

@@ -5,7 +5,7 @@ use Rattle.c_tree.specs.declared.lists.Declared.{Declared}
 use Rattle.c_tree.specs.Tree.{Code}
 use Rattle.fam_outer.specs.declared.faults.Place.{Place}
 use Rattle.c_grammar.specs.declared.items.Item.{Item}
-use Rattle.c_grammar.specs.Grammar.{Qualifier, Unqualified, Constant, Counted, LocalDeclarator, uninitialised, initialised, from_call, Shape, Writes, more, choice, local, last_local, next_local, otherwise, elif, block, while, if_then, if_else, with_true, with_false, declared, Body, body, Main, main, File, Forms, file}
+use Rattle.c_grammar.specs.Grammar.{Qualifier, Unqualified, Constant, Counted, LocalDeclarator, uninitialised, initialised, from_call, Shape, Writes, more, choice, local, last_local, next_local, otherwise, elif, block, while, for, if_then, if_else, with_true, with_false, declared, Body, body, Main, main, File, Forms, file}
 
 abbrev pub local_name : {kind : Qualifier} {ts : List Item} {c : Code} → LocalDeclarator kind ts c → ℕ
 local_name (uninitialised p x) = x
@@ -27,6 +27,7 @@ locals_in gs (otherwise p q s) = locals_in gs s
 locals_in gs (elif p n s t) = locals_in (with_true gs n) s ++ locals_in (with_false gs n) t
 locals_in gs (block p q s) = locals_in gs s
 locals_in gs (while p q r e s) = locals_in gs s
+locals_in gs (for p q r z a t b s) = locals_in gs s
 locals_in gs (if_then p q r e s) = locals_in gs s
 locals_in gs (if_else p q r z e s t) = locals_in gs s ++ locals_in gs t
 locals_in gs _ = []

@@ -26,7 +26,7 @@ room (Pre u ∷ fs) = 0
 room (Left op a ∷ fs) = tighter op
 
 -- the statements that are open, the innermost first; a list has the statements that it has so far, and the outermost one,
--- that of `main`, the declarators before it
+-- that of `main`, the declarators before it; a loop has what stands before its first test, and its step
 pub data Stack : Type 0 where
   Top : (ds : List Declared) (made : Code) → Stack
   Braces : (p : Place) (made : Code) (outer : Stack) → Stack
@@ -34,20 +34,28 @@ pub data Stack : Type 0 where
   No : (links : List (ℕ × Code)) (n : ℕ) (first : Code) (made : Code) (outer : Stack) → Stack
   ThenOf : (p : Place) (e : Term) (outer : Stack) → Stack
   ElseOf : (p : Place) (e : Term) (first : Code) (outer : Stack) → Stack
-  LoopOf : (p : Place) (e : Term) (outer : Stack) → Stack
+  LoopOf : (start : Code) (p : Place) (e : Term) (advance : Code) (outer : Stack) → Stack
 
--- what an expression is for; the initialiser of a variable that `main` declares has what its declaration declares
+-- where a change of a variable stands: as a statement; before the first test of a `for`; behind its test
+pub data Site : Type 0 where
+  AsStatement : (outer : Stack) → Site
+  AsStart : (outer : Stack) → Site
+  AsStep : (start : Code) (p : Place) (e : Term) (outer : Stack) → Site
+
+-- what an expression is for; the initialiser of a variable that `main` declares has what its declaration declares, and the test
+-- of a `for` what stands before it
 pub data Use : Type 0 where
-  ToAssign : (p : Place) (x : ℕ) (outer : Stack) → Use
+  ToAssign : (p : Place) (x : ℕ) (site : Site) → Use
   ToInitialise : (kind : Qualifier) (p : Place) (x : ℕ) (outer : Stack) → Use
-  ToUpdate : (p : Place) (x : ℕ) (u : Update) (outer : Stack) → Use
+  ToUpdate : (p : Place) (x : ℕ) (u : Update) (site : Site) → Use
   ToAssert : (p : Place) (outer : Stack) → Use
   ToChoose : (p : Place) (outer : Stack) → Use
   ToLoop : (p : Place) (outer : Stack) → Use
+  ToRepeat : (start : Code) (p : Place) (outer : Stack) → Use
 
--- what is read but for its end: a statement, or a declarator in `main`
+-- what is read but for its end: a statement, which may be a change in a `for`, or a declarator in `main`
 pub data Pending : Type 0 where
-  OfStatement : (outer : Stack) (c : Code) → Pending
+  OfStatement : (site : Site) (c : Code) → Pending
   OfLocal : (kind : Qualifier) (outer : Stack) (c : Code) → Pending
 
 -- the groups around declarations: a part with a condition, and the guards before it; the last part, with its guards
@@ -128,9 +136,14 @@ pub data ReadingState : Type 0 where
   Wants : (fs : List Frame) (u : Use) → ReadingState
   Has : (fs : List Frame) (u : Use) (e : Term) → ReadingState
   -- the name of a variable comes, behind `++` or `--`
-  Counting : (p : Place) (u : Count) (outer : Stack) → ReadingState
-  Named : (p : Place) (x : ℕ) (outer : Stack) → ReadingState
+  Counting : (p : Place) (u : Count) (site : Site) → ReadingState
+  Named : (p : Place) (x : ℕ) (site : Site) → ReadingState
   Opens : (u : Use) → ReadingState
+  -- a `for`: its parentheses come; what stands before its first test does; the test does; what stands behind it does
+  ForOpens : (outer : Stack) → ReadingState
+  StartComes : (outer : Stack) → ReadingState
+  TestComes : (start : Code) (outer : Stack) → ReadingState
+  StepComes : (start : Code) (p : Place) (e : Term) (outer : Stack) → ReadingState
   -- a call whose value is dropped, which begins with parentheses: `void` comes, and the closing one, and the name of a function
   VoidComes : (p : Place) (outer : Stack) → ReadingState
   VoidCloses : (p : Place) (outer : Stack) → ReadingState
@@ -157,7 +170,7 @@ folded (Yes links n made outer) c = Yes links n (followed made c) outer
 folded (No links n first made outer) c = No links n first (followed made c) outer
 folded (ThenOf p e outer) c = folded outer (If p e c Done Done)
 folded (ElseOf p e first outer) c = folded outer (If p e first c Done)
-folded (LoopOf p e outer) c = folded outer (While p e c Done)
+folded (LoopOf start p e advance outer) c = folded outer (followed start (While p e advance c Done))
 
 -- ---- expressions
 
@@ -173,8 +186,20 @@ prefix_of Add = Some Positive
 prefix_of Sub = Some Negative
 prefix_of _ = None
 
+-- a change of a variable ends: with a semicolon it is a statement, or the test of a `for` comes; with a closing parenthesis the
+-- body of a `for` does
+abbrev pub ended_change : Site → Code → Option ReadingState
+ended_change (AsStatement outer) c = Some (Ended outer c)
+ended_change (AsStart outer) c = Some (TestComes c outer)
+ended_change (AsStep start p e outer) c = None
+
+abbrev pub closed_change : Site → Code → Option ReadingState
+closed_change (AsStatement outer) c = None
+closed_change (AsStart outer) c = None
+closed_change (AsStep start p e outer) c = Some (Ready (LoopOf start p e c outer))
+
 abbrev pub input_of : List Frame → Use → Option ReadingState
-input_of [] (ToAssign p x outer) = Some (CallOpens (OfStatement outer (Input p x Done)))
+input_of [] (ToAssign p x site) = Some (CallOpens (OfStatement site (Input p x Done)))
 input_of [] (ToInitialise kind p x outer) = Some (CallOpens (OfLocal kind outer (Input p x Done)))
 input_of _ _ = None
 
@@ -189,12 +214,13 @@ want fs u (signs.Function k) = input_of fs u
 want fs u _ = None
 
 abbrev pub tested : Use → Term → Option ReadingState
-tested (ToAssign p x outer) e = None
+tested (ToAssign p x site) e = closed_change site (Assign p x e Done)
 tested (ToInitialise kind p x outer) e = None
-tested (ToUpdate p x u outer) e = None
-tested (ToAssert p outer) e = Some (Finishing (OfStatement outer (Assert p e Done)))
+tested (ToUpdate p x u site) e = closed_change site (updated p x u e)
+tested (ToAssert p outer) e = Some (Finishing (OfStatement (AsStatement outer) (Assert p e Done)))
 tested (ToChoose p outer) e = Some (Ready (ThenOf p e outer))
-tested (ToLoop p outer) e = Some (Ready (LoopOf p e outer))
+tested (ToLoop p outer) e = Some (Ready (LoopOf Done p e Done outer))
+tested (ToRepeat start p outer) e = None
 
 abbrev pub closed_by : List Frame → Use → Term → Option ReadingState
 closed_by [] u e = tested u e
@@ -203,12 +229,13 @@ closed_by (Pre v ∷ fs) u e = None
 closed_by (Left op a ∷ fs) u e = None
 
 abbrev pub assigned : Use → Term → Option ReadingState
-assigned (ToAssign p x outer) e = Some (Ended outer (Assign p x e Done))
+assigned (ToAssign p x site) e = ended_change site (Assign p x e Done)
 assigned (ToInitialise kind p x outer) e = Some (Ready (folded outer (Assign p x e Done)))
-assigned (ToUpdate p x u outer) e = Some (Ended outer (updated p x u e))
+assigned (ToUpdate p x u site) e = ended_change site (updated p x u e)
 assigned (ToAssert p outer) e = None
 assigned (ToChoose p outer) e = None
 assigned (ToLoop p outer) e = None
+assigned (ToRepeat start p outer) e = Some (StepComes start p e outer)
 
 abbrev pub ended_by : List Frame → Use → Term → Option ReadingState
 ended_by [] u e = assigned u e
@@ -217,11 +244,12 @@ ended_by (f ∷ fs) u e = None
 -- another declarator comes
 abbrev pub initialised : Use → Term → Option ReadingState
 initialised (ToInitialise kind p x outer) e = Some (NextLocal kind (folded outer (Assign p x e Done)))
-initialised (ToAssign p x outer) e = None
-initialised (ToUpdate p x u outer) e = None
+initialised (ToAssign p x site) e = None
+initialised (ToUpdate p x u site) e = None
 initialised (ToAssert p outer) e = None
 initialised (ToChoose p outer) e = None
 initialised (ToLoop p outer) e = None
+initialised (ToRepeat start p outer) e = None
 
 abbrev pub followed_by : List Frame → Use → Term → Option ReadingState
 followed_by [] u e = initialised u e
@@ -244,7 +272,7 @@ else_of (Yes links n made outer) c = None
 else_of (No links n first made outer) c = None
 else_of (ThenOf p e outer) c = Some (Ready (ElseOf p e c outer))
 else_of (ElseOf p e first outer) c = else_of outer (If p e first c Done)
-else_of (LoopOf p e outer) c = else_of outer (While p e c Done)
+else_of (LoopOf start p e advance outer) c = else_of outer (followed start (While p e advance c Done))
 
 -- the earlier parts of a group around its later ones
 abbrev pub linked : List (ℕ × Code) → Code → Code
@@ -258,7 +286,7 @@ opened n (Yes links m made outer) = Some (Ready (Yes [] n Done (Yes links m made
 opened n (No links m first made outer) = Some (Ready (Yes [] n Done (No links m first made outer)))
 opened n (ThenOf p e outer) = None
 opened n (ElseOf p e first outer) = None
-opened n (LoopOf p e outer) = None
+opened n (LoopOf start p e advance outer) = None
 
 abbrev pub braced : Stack → Place → Option ReadingState
 braced (Braces p made outer) q = Some (Ended outer (Block p made Done))
@@ -290,25 +318,26 @@ in_list (Yes links n made outer) next = Some next
 in_list (No links n first made outer) next = Some next
 in_list (ThenOf p e outer) next = None
 in_list (ElseOf p e first outer) next = None
-in_list (LoopOf p e outer) next = None
+in_list (LoopOf start p e advance outer) next = None
 
 abbrev pub begin : Stack → Place → Sign → Option ReadingState
-begin outer p (signs.Name x) = Some (Named p x outer)
+begin outer p (signs.Name x) = Some (Named p x (AsStatement outer))
 begin outer p signs.Const = in_list outer (LocalConst outer)
 begin outer p signs.Int = in_list outer (LocalType Unqualified OneInt outer)
 begin outer p signs.Int32 = in_list outer (LocalType Unqualified WholeType outer)
 begin outer p signs.Signed = in_list outer (LocalType Unqualified OneSigned outer)
-begin outer p signs.Input = Some (CallOpens (OfStatement outer (Skip p Done)))
-begin outer p (signs.Function k) = Some (CallOpens (OfStatement outer (Skip p Done)))
+begin outer p signs.Input = Some (CallOpens (OfStatement (AsStatement outer) (Skip p Done)))
+begin outer p (signs.Function k) = Some (CallOpens (OfStatement (AsStatement outer) (Skip p Done)))
 begin outer p signs.Open = Some (VoidComes p outer)
 begin outer p signs.Semicolon = Some (Ended outer (Skip p Done))
-begin outer p signs.PlusPlus = Some (Counting p Raise outer)
-begin outer p signs.MinusMinus = Some (Counting p Lower outer)
+begin outer p signs.PlusPlus = Some (Counting p Raise (AsStatement outer))
+begin outer p signs.MinusMinus = Some (Counting p Lower (AsStatement outer))
 begin outer p signs.LeftBrace = Some (Ready (Braces p Done outer))
 begin outer p signs.RightBrace = braced outer p
 begin outer p signs.Assert = Some (Opens (ToAssert p outer))
 begin outer p signs.If = Some (Opens (ToChoose p outer))
 begin outer p signs.While = Some (Opens (ToLoop p outer))
+begin outer p signs.For = Some (ForOpens outer)
 begin outer p signs.Return = returned outer p
 begin outer p (signs.GroupIf n) = opened n outer
 begin outer p (signs.GroupElif n) = next_part n outer
@@ -320,20 +349,42 @@ abbrev pub on : Stack → Code → Place → Sign → Option ReadingState
 on outer c p signs.Else = else_of outer c
 on outer c p s = begin (folded outer c) p s
 
-abbrev pub named : Place → ℕ → Stack → Sign → Option ReadingState
-named p x outer signs.Equals = Some (Wants [] (ToAssign p x outer))
-named p x outer signs.PlusEquals = Some (Wants [] (ToUpdate p x Sum outer))
-named p x outer signs.MinusEquals = Some (Wants [] (ToUpdate p x Difference outer))
-named p x outer signs.StarEquals = Some (Wants [] (ToUpdate p x Product outer))
-named p x outer signs.SlashEquals = Some (Wants [] (ToUpdate p x Quotient outer))
-named p x outer signs.PercentEquals = Some (Wants [] (ToUpdate p x Remainder outer))
-named p x outer signs.PlusPlus = Some (Finishing (OfStatement outer (changed_by_one p x Raise)))
-named p x outer signs.MinusMinus = Some (Finishing (OfStatement outer (changed_by_one p x Lower)))
-named p x outer _ = None
+abbrev pub named : Place → ℕ → Site → Sign → Option ReadingState
+named p x site signs.Equals = Some (Wants [] (ToAssign p x site))
+named p x site signs.PlusEquals = Some (Wants [] (ToUpdate p x Sum site))
+named p x site signs.MinusEquals = Some (Wants [] (ToUpdate p x Difference site))
+named p x site signs.StarEquals = Some (Wants [] (ToUpdate p x Product site))
+named p x site signs.SlashEquals = Some (Wants [] (ToUpdate p x Quotient site))
+named p x site signs.PercentEquals = Some (Wants [] (ToUpdate p x Remainder site))
+named p x site signs.PlusPlus = Some (Finishing (OfStatement site (changed_by_one p x Raise)))
+named p x site signs.MinusMinus = Some (Finishing (OfStatement site (changed_by_one p x Lower)))
+named p x site _ = None
 
-abbrev pub counting : Place → Count → Stack → Sign → Option ReadingState
-counting p u outer (signs.Name x) = Some (Finishing (OfStatement outer (changed_by_one p x u)))
-counting p u outer _ = None
+abbrev pub counting : Place → Count → Site → Sign → Option ReadingState
+counting p u site (signs.Name x) = Some (Finishing (OfStatement site (changed_by_one p x u)))
+counting p u site _ = None
+
+-- a change begins in a `for`
+abbrev pub changing : Site → Place → Sign → Option ReadingState
+changing site p (signs.Name x) = Some (Named p x site)
+changing site p signs.PlusPlus = Some (Counting p Raise site)
+changing site p signs.MinusMinus = Some (Counting p Lower site)
+changing site p _ = None
+
+-- what stands before the first test of a `for`, or nothing does
+abbrev pub start_comes : Stack → Place → Sign → Option ReadingState
+start_comes outer p signs.Semicolon = Some (TestComes Done outer)
+start_comes outer p s = changing (AsStart outer) p s
+
+-- the test of a `for`, or none: the loop has the place of what comes
+abbrev pub test_comes : Code → Stack → Place → Sign → Option ReadingState
+test_comes start outer p signs.Semicolon = Some (StepComes start p (Number (pos 1)) outer)
+test_comes start outer p s = want [] (ToRepeat start p outer) s
+
+-- what stands behind the test of a `for`, or nothing does
+abbrev pub step_comes : Code → Place → Term → Stack → Place → Sign → Option ReadingState
+step_comes start p e outer q signs.Close = Some (Ready (LoopOf start p e Done outer))
+step_comes start p e outer q s = changing (AsStep start p e outer) q s
 
 -- the end of a declarator in `main`
 abbrev pub local_end : Qualifier → Stack → Code → Sign → Option ReadingState
@@ -388,7 +439,9 @@ at_semicolon next _ = None
 
 -- the end of a statement or of a declarator
 abbrev pub finishing : Pending → Sign → Option ReadingState
-finishing (OfStatement outer c) s = at_semicolon (Ended outer c) s
+finishing (OfStatement site c) signs.Semicolon = ended_change site c
+finishing (OfStatement site c) signs.Close = closed_change site c
+finishing (OfStatement site c) s = None
 finishing (OfLocal kind outer c) s = local_end kind outer c s
 
 abbrev pub at_void : ReadingState → Sign → Option ReadingState
@@ -641,12 +694,16 @@ step (LocalNamed kind q x outer) p s = local_named kind q x outer s
 step (Ended outer c) p s = on outer c p s
 step (Wants fs u) p s = want fs u s
 step (Has fs u e) p s = have fs u e s
-step (Counting q u outer) p s = counting q u outer s
-step (Named q x outer) p s = named q x outer s
+step (Counting q u site) p s = counting q u site s
+step (Named q x site) p s = named q x site s
 step (Opens u) p s = at_open (Wants [] u) s
+step (ForOpens outer) p s = at_open (StartComes outer) s
+step (StartComes outer) p s = start_comes outer p s
+step (TestComes start outer) p s = test_comes start outer p s
+step (StepComes start q e outer) p s = step_comes start q e outer p s
 step (VoidComes q outer) p s = at_void (VoidCloses q outer) s
 step (VoidCloses q outer) p s = at_close (CallComes q outer) s
-step (CallComes q outer) p s = at_function (CallOpens (OfStatement outer (Skip q Done))) s
+step (CallComes q outer) p s = at_function (CallOpens (OfStatement (AsStatement outer) (Skip q Done))) s
 step (CallOpens made) p s = at_open (CallCloses made) s
 step (CallCloses made) p s = at_close (Finishing made) s
 step (Finishing made) p s = finishing made s

@@ -28,6 +28,7 @@ pub enum Sign {
     If,
     Else,
     While,
+    For,
     Reserved,
     Open,
     Close,

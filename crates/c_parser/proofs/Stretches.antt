@@ -1,5 +1,5 @@
 -- The items of `main` as stretches: declarations, groups, and items between them that declare nothing.
-use Rattle.std.proofs.Common.{◌≡◌, ℕ, Bool, true, false, ◌&&◌, List, [], ◌∷◌, ◌++◌, None, refl}
+use Rattle.std.proofs.Common.{◌≡◌, ℕ, Bool, true, false, ◌&&◌, List, [], ◌∷◌, ◌++◌, None, refl, subst}
 use Rattle.fam_outer.specs.declared.faults.Place.{Place}
 use Rattle.c_tree.specs.declared.lists.Guard.{Guard}
 use Rattle.c_tree.specs.declared.lists.Declared.{Declared}
@@ -9,9 +9,10 @@ use Rattle.c_grammar.specs.declared.items.Item.{Item}
 use Rattle.c_grammar.specs.declared.items.Sign.{Sign}
 use Rattle.c_grammar.specs.declared.items.Sign.TheVariants as signs
 use Rattle.c_grammar.specs.Constants.{kind_behind}
-use Rattle.c_grammar.specs.Grammar.{at, Prefix, Positive, Negative, Inverse, prefix_sign, Expresses, number, name, group, prefix, loose, binary, Update, Sum, Difference, Product, Quotient, Remainder, update_sign, Count, Raise, Lower, count_sign, Callable, of_input, of_function, Qualifier, Qualified, Shape, Listed, Stated, Chained, Locals, Writes, none, more, choice, local, last_local, next_local, ends, otherwise, elif, assign, input, call, void_call, update, count, prefix_count, assert, skip, block, while, if_then, if_else, with_true, with_false, is_group, Returns, no_return, return, Gap, Gaps, GapRest, Empty, no_more, empty_section, empty_end, empty_else, empty_elif, Body, body}
+use Rattle.c_grammar.specs.Grammar.{at, Prefix, Positive, Negative, Inverse, prefix_sign, Expresses, number, name, group, prefix, loose, binary, Update, Sum, Difference, Product, Quotient, Remainder, update_sign, Count, Raise, Lower, count_sign, Callable, of_input, of_function, Changes, assignment, input_taken, compound_assignment, count_behind, count_before, Clause, no_clause, clause, Tests, no_test, test, Qualifier, Qualified, Shape, Listed, Stated, Chained, Locals, Writes, none, more, choice, local, last_local, next_local, ends, otherwise, elif, change, call, void_call, assert, skip, block, while, for, if_then, if_else, with_true, with_false, is_group, Returns, no_return, return, Gap, Gaps, GapRest, Empty, no_more, empty_section, empty_end, empty_else, empty_elif, Body, body}
 use Rattle.c_grammar.specs.Kept.{directive_of}
 use Rattle.c_grammar.specs.Locals.{is_declaring}
+use Rattle.c_grammar.proofs.Keeping.{for_head, for_is}
 use Rattle.c_grammar.specs.LocalsOf.{locals_in, locals_of_body}
 
 -- ---- items that declare nothing
@@ -98,6 +99,27 @@ pub function_calm : {f : Sign} (p : Place) (us : List Item) → Callable f → a
 function_calm p us of_input h = h
 function_calm p us (of_function k) h = h
 
+-- no more do changes, and what stands in the parentheses of a `for`
+pub change_calm : {ts : List Item} {c : Code} → Changes ts c → are_calm ts ≡ true
+change_calm (assignment p q x e) = expression_calm e
+change_calm (input_taken p q r s t x f) = function_calm r (at s signs.Open ∷ at t signs.Close ∷ []) f refl
+change_calm (compound_assignment p q x u {ts} e) = calm_both (at q (update_sign u) ∷ []) ts (update_calm u q) (expression_calm e)
+change_calm (count_behind p q x u) = count_calm u q
+change_calm (count_before p q x u) = calm_both (at p (count_sign u) ∷ []) (at q (signs.Name x) ∷ []) (count_calm u p) refl
+
+clause_calm : {ts : List Item} {c : Code} → Clause ts c → are_calm ts ≡ true
+clause_calm no_clause = refl
+clause_calm (clause s) = change_calm s
+
+tests_calm : {us : List Item} {t : Place} {e : Term} → Tests us t e → are_calm us ≡ true
+tests_calm (no_test s) = refl
+tests_calm (test s {x} {ts} e) = calm_both (x ∷ ts) (at s signs.Semicolon ∷ []) (expression_calm e) refl
+
+pub header_calm : (p q r s : Place) {ts us vs : List Item} {a b : Code} {t : Place} {e : Term} → Clause ts a → Tests us t e → Clause vs b → are_calm (for_head p q r s ts us vs) ≡ true
+header_calm p q r s {ts} {us} {vs} a t b =
+    calm_both ts (at r signs.Semicolon ∷ (us ++ (vs ++ at s signs.Close ∷ []))) (clause_calm a)
+    (calm_both us (vs ++ at s signs.Close ∷ []) (tests_calm t) (calm_both vs (at s signs.Close ∷ []) (clause_calm b) refl))
+
 -- ---- stretches
 
 -- a stretch of items within guards, or what closes a group, with the declarators in it
@@ -129,24 +151,18 @@ stretch_of gs (next_local p d v) = tt
 stretch_of gs (ends p) = end_group gs p
 stretch_of gs (otherwise p q s) = else_group gs p q (stretch_of gs s)
 stretch_of gs (elif p n s t) = elif_group gs p n (stretch_of (with_true gs n) s) (stretch_of (with_false gs n) t)
-stretch_of gs (assign p q r x {ts} e) = calm gs (at p (signs.Name x) ∷ at q signs.Equals ∷ (ts ++ at r signs.Semicolon ∷ [])) (calm_both ts (at r signs.Semicolon ∷ []) (expression_calm e) refl)
-stretch_of gs (input p q r s t u x {f} g) =
-    calm gs (at p (signs.Name x) ∷ at q signs.Equals ∷ at r f ∷ at s signs.Open ∷ at t signs.Close ∷ at u signs.Semicolon ∷ []) (function_calm r (at s signs.Open ∷ at t signs.Close ∷ at u signs.Semicolon ∷ []) g refl)
+stretch_of gs (change r {ts} s) = calm gs (ts ++ at r signs.Semicolon ∷ []) (calm_both ts (at r signs.Semicolon ∷ []) (change_calm s) refl)
 stretch_of gs (call p q r s {f} g) =
     calm gs (at p f ∷ at q signs.Open ∷ at r signs.Close ∷ at s signs.Semicolon ∷ []) (function_calm p (at q signs.Open ∷ at r signs.Close ∷ at s signs.Semicolon ∷ []) g refl)
 stretch_of gs (void_call p q r s t u v {f} g) =
     calm gs (at p signs.Open ∷ at q signs.Void ∷ at r signs.Close ∷ at s f ∷ at t signs.Open ∷ at u signs.Close ∷ at v signs.Semicolon ∷ []) (function_calm s (at t signs.Open ∷ at u signs.Close ∷ at v signs.Semicolon ∷ []) g refl)
-stretch_of gs (update p q r x u {ts} e) =
-    calm gs (at p (signs.Name x) ∷ at q (update_sign u) ∷ (ts ++ at r signs.Semicolon ∷ []))
-    (calm_both (at q (update_sign u) ∷ []) (ts ++ at r signs.Semicolon ∷ []) (update_calm u q) (calm_both ts (at r signs.Semicolon ∷ []) (expression_calm e) refl))
-stretch_of gs (count p q r x u) = calm gs (at p (signs.Name x) ∷ at q (count_sign u) ∷ at r signs.Semicolon ∷ []) (calm_both (at q (count_sign u) ∷ []) (at r signs.Semicolon ∷ []) (count_calm u q) refl)
-stretch_of gs (prefix_count p q r x u) =
-    calm gs (at p (count_sign u) ∷ at q (signs.Name x) ∷ at r signs.Semicolon ∷ []) (calm_both (at p (count_sign u) ∷ []) (at q (signs.Name x) ∷ at r signs.Semicolon ∷ []) (count_calm u p) refl)
 stretch_of gs (assert p q r s {ts} e) =
     calm gs (at p signs.Assert ∷ at q signs.Open ∷ (ts ++ at r signs.Close ∷ at s signs.Semicolon ∷ [])) (calm_both ts (at r signs.Close ∷ at s signs.Semicolon ∷ []) (expression_calm e) refl)
 stretch_of gs (skip p) = calm gs (at p signs.Semicolon ∷ []) refl
 stretch_of gs (block p q s) = behind gs (at p signs.LeftBrace ∷ []) refl (before gs (at q signs.RightBrace ∷ []) (stretch_of gs s) refl)
 stretch_of gs (while p q r {b} {ts} e s) = behind gs (at p signs.While ∷ at q signs.Open ∷ []) refl (behind gs ts (expression_calm e) (behind gs (at r signs.Close ∷ []) refl (stretch_of gs s)))
+stretch_of gs (for p q r z {b} {ts} {us} {vs} {ws} a t d s) =
+    subst (λ (l : List Item). Stretch false gs l (locals_in gs s)) (for_is p q r z ts us vs ws) (behind gs (for_head p q r z ts us vs) (header_calm p q r z a t d) (stretch_of gs s))
 stretch_of gs (if_then p q r {b} {ts} e s) = behind gs (at p signs.If ∷ at q signs.Open ∷ []) refl (behind gs ts (expression_calm e) (behind gs (at r signs.Close ∷ []) refl (stretch_of gs s)))
 stretch_of gs (if_else p q r z {b} {ts} e s t) =
     behind gs (at p signs.If ∷ at q signs.Open ∷ []) refl (behind gs ts (expression_calm e)

@@ -10,7 +10,7 @@ use c_tree::Op;
 use c_words::is_keyword;
 
 /// The keywords that the subset uses, and the words that it reserves besides.
-const USED_WORDS: [(&str, Sign); 15] = [
+const USED_WORDS: [(&str, Sign); 16] = [
     ("static", Sign::Static),
     ("const", Sign::Const),
     ("int", Sign::Int),
@@ -25,6 +25,7 @@ const USED_WORDS: [(&str, Sign); 15] = [
     ("if", Sign::If),
     ("else", Sign::Else),
     ("while", Sign::While),
+    ("for", Sign::For),
     ("enum", Sign::Enum),
 ];
 

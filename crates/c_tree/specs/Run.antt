@@ -43,8 +43,8 @@ step_of mode inputs (Assert place test rest) store taken =
     with_value place (value_of test store mode) (λ n. if is_zero n then Stopped place Assertion else Moved (record { todo = rest; store = store; taken = taken }))
 step_of mode inputs (If place test p q rest) store taken =
     with_value place (value_of test store mode) (λ n. Moved (record { todo = followed (if is_zero n then q else p) rest; store = store; taken = taken }))
-step_of mode inputs (While place test body rest) store taken =
-    with_value place (value_of test store mode) (λ n. Moved (record { todo = if is_zero n then rest else followed body (While place test body rest); store = store; taken = taken }))
+step_of mode inputs (While place test step body rest) store taken =
+    with_value place (value_of test store mode) (λ n. Moved (record { todo = if is_zero n then rest else followed body (followed step (While place test step body rest)); store = store; taken = taken }))
 step_of mode inputs (Block place body rest) store taken = Moved (record { todo = followed body rest; store = store; taken = taken })
 step_of mode inputs (Skip place rest) store taken = Moved (record { todo = rest; store = store; taken = taken })
 -- a plain program has no such statement
@@ -68,7 +68,7 @@ cut_of (Assign place target value rest) store = AtEnd place store
 cut_of (Input place target rest) store = AtEnd place store
 cut_of (Assert place test rest) store = AtEnd place store
 cut_of (If place test p q rest) store = AtEnd place store
-cut_of (While place test body rest) store = AtEnd place store
+cut_of (While place test step body rest) store = AtEnd place store
 cut_of (Block place body rest) store = AtEnd place store
 cut_of (Skip place rest) store = AtEnd place store
 cut_of (Cond number p q rest) store = EndedEnd store

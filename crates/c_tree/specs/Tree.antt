@@ -12,14 +12,15 @@ pub data Term : Type 0 where
   Not : (a : Term) → Term
   Binary : (op : Op) (a b : Term) → Term
 
--- a list of statements: none, or a statement with the list that follows it
+-- a list of statements: none, or a statement with the list that follows it. A loop does its body, and then its step, while its
+-- test is not 0; the step is that of a `for`, and empty where there is none
 pub data Code : Type 0 where
   Done : Code
   Assign : (place : Place) (target : ℕ) (value : Term) (rest : Code) → Code
   Input : (place : Place) (target : ℕ) (rest : Code) → Code
   Assert : (place : Place) (test : Term) (rest : Code) → Code
   If : (place : Place) (test : Term) (yes no rest : Code) → Code
-  While : (place : Place) (test : Term) (body rest : Code) → Code
+  While : (place : Place) (test : Term) (step body rest : Code) → Code
   Block : (place : Place) (body rest : Code) → Code
   Skip : (place : Place) (rest : Code) → Code
   Cond : (number : ℕ) (yes no rest : Code) → Code
@@ -31,7 +32,7 @@ followed (Assign place target value rest) next = Assign place target value (foll
 followed (Input place target rest) next = Input place target (followed rest next)
 followed (Assert place test rest) next = Assert place test (followed rest next)
 followed (If place test p q rest) next = If place test p q (followed rest next)
-followed (While place test body rest) next = While place test body (followed rest next)
+followed (While place test step body rest) next = While place test step body (followed rest next)
 followed (Block place body rest) next = Block place body (followed rest next)
 followed (Skip place rest) next = Skip place (followed rest next)
 followed (Cond number p q rest) next = Cond number p q (followed rest next)

@@ -49,7 +49,17 @@ fn places_of_stmt(s: &Stmt, out: &mut Vec<Place>) -> Result<(), NoMemory>
             places_of_list(yes, out)?;
             places_of_list(no, out)
         }
-        Stmt::While { place, body, .. } | Stmt::Block { place, body } => {
+        Stmt::While {
+            place,
+            step,
+            body,
+            ..
+        } => {
+            out.push(*place)?;
+            places_of_list(step, out)?;
+            places_of_list(body, out)
+        }
+        Stmt::Block { place, body } => {
             out.push(*place)?;
             places_of_list(body, out)
         }

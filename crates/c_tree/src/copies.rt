@@ -70,12 +70,19 @@ pub fn copy_stmt(alloc: Global, s: &Stmt) -> Result<Stmt, NoMemory>
                 no,
             })
         }
-        Stmt::While { place, test, body } => {
+        Stmt::While {
+            place,
+            test,
+            step,
+            body,
+        } => {
             let test = copy_expr(alloc, test)?;
+            let step = copy_list(alloc, step)?;
             let body = copy_list(alloc, body)?;
             Ok(Stmt::While {
                 place: *place,
                 test,
+                step,
                 body,
             })
         }

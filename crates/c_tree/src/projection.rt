@@ -133,13 +133,21 @@ fn project_stmt(
             };
             push_stmt(out, made)
         }
-        Stmt::While { place, test, body } => {
+        Stmt::While {
+            place,
+            test,
+            step,
+            body,
+        } => {
             let test = copy_expr(alloc, test)?;
+            let mut made_step = Vec::new(alloc);
+            project_list(alloc, step, truths, &mut made_step)?;
             let mut made_body = Vec::new(alloc);
             project_list(alloc, body, truths, &mut made_body)?;
             let made = Stmt::While {
                 place: *place,
                 test,
+                step: made_step,
                 body: made_body,
             };
             push_stmt(out, made)

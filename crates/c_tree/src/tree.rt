@@ -33,8 +33,10 @@ pub enum Expr {
     Binary(Op, Box<Expr>, Box<Expr>),
 }
 
-/// A statement. Its place is that of its first token. `Cond` is a section of groups: `yes` where
-/// the condition of this number is true, else `no`.
+/// A statement. Its place is that of its first token. `While` does its body, and then its step,
+/// while its test is not 0; `step` is that of a `for`, whose place is that of its test, and empty
+/// in a `while`. `Cond` is a section of groups: `yes` where the condition of this number is true,
+/// else `no`.
 #[derive(Debug, Drop)]
 pub enum Stmt {
     Assign {
@@ -59,6 +61,7 @@ pub enum Stmt {
     While {
         place: Place,
         test: Expr,
+        step: Vec<Stmt>,
         body: Vec<Stmt>,
     },
     Block {

@@ -53,8 +53,14 @@ fn push_loops_of(s: &Stmt, out: &mut Vec<Place>) -> Result<(), NoMemory>
             push_loops(yes, out)?;
             push_loops(no, out)
         }
-        Stmt::While { place, body, .. } => {
+        Stmt::While {
+            place,
+            step,
+            body,
+            ..
+        } => {
             out.push(*place)?;
+            push_loops(step, out)?;
             push_loops(body, out)
         }
         Stmt::Block { body, .. } => push_loops(body, out),

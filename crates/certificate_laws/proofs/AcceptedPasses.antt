@@ -6,7 +6,7 @@ use Rattle.c_tree.specs.declared.tree.Mode.{Mode}
 use Rattle.c_tree.specs.Tree.{Term, Code, Done, Assign, Input, Assert, If, While, Block, Skip, Cond}
 use Rattle.leaf_domain.specs.Leaves.{LeafValue, LeafMeaning}
 use Rattle.leaf_domain.specs.Transfer.{assumed, assigned, forgotten}
-use Rattle.plain_analysis.specs.Statements.{Heads, passed, entries_by}
+use Rattle.plain_analysis.specs.Statements.{Heads, passed, head_by, entries_by}
 use Rattle.lifted_analysis.specs.Turns.{Turn, turns_by}
 use Rattle.certificate_laws.proofs.AcceptedLists.{all_left, all_right}
 
@@ -16,7 +16,7 @@ two xs ys zs us e f = ap (λ l. l ++ zs) e ∙ ap (λ l. ys ++ l) f
 module _ (M : LeafMeaning) (mode : Mode) (g : Place → LeafValue) (K : Heads) where
   -- the heads that places have
   abbrev pub placed : Heads
-  placed place test body x = g place
+  placed place test lap x = g place
 
   -- the loop's head is that of its place
   abbrev pub IsGiven : Turn → Type 0
@@ -43,26 +43,31 @@ module _ (M : LeafMeaning) (mode : Mode) (g : Place → LeafValue) (K : Heads) w
     ap (entries_by M mode placed c) e ∙ s.entries,
   )
 
-  same_loop : (place : Place) (e : Term) (body rest : Code) (v : LeafValue) → g place ≡ K place e (P body) v
-      → IsSame body (assumed M mode e true (K place e (P body) v)) → IsSame rest (assumed M mode e false (K place e (P body) v)) → IsSame (While place e body rest) v
-  same_loop place e body rest v h sb sr =
-      let x = K place e (P body) v in
+  same_loop : (place : Place) (e : Term) (step body rest : Code) (v : LeafValue)
+      → (let x = head_by M mode K place e step body v in
+      g place ≡ x → IsSame step (P body (assumed M mode e true x)) → IsSame body (assumed M mode e true x) → IsSame rest (assumed M mode e false x)
+      → IsSame (While place e step body rest) v)
+  same_loop place e step body rest v h ss sb sr =
+      let x = head_by M mode K place e step body v in
       let t = assumed M mode e true x in
       let f = assumed M mode e false x in
-      let b = from_same body (assumed M mode e true (g place)) t (ap (assumed M mode e true) h) sb in
-      let r = from_same rest (assumed M mode e false (g place)) f (ap (assumed M mode e false) h) sr in
+      let y = assumed M mode e true (g place) in
+      let n = assumed M mode e false (g place) in
+      let b = from_same body y t (ap (assumed M mode e true) h) sb in
+      let s = from_same step (G body y) (P body t) b.0 ss in
+      let r = from_same rest n f (ap (assumed M mode e false) h) sr in
       record {
         after = r.0;
         turns =
-            ap (λ y. record { place = place; entered = v; head = y; again = G body (assumed M mode e true (g place)) }
-            ∷ (turns_by M mode placed body (assumed M mode e true (g place)) ++ turns_by M mode placed rest (assumed M mode e false (g place)))) h
-            ∙ (ap (λ y. record { place = place; entered = v; head = x; again = y }
-            ∷ (turns_by M mode placed body (assumed M mode e true (g place)) ++ turns_by M mode placed rest (assumed M mode e false (g place)))) b.0
-            ∙ ap (λ l. record { place = place; entered = v; head = x; again = P body t } ∷ l) (two _ _ _ _ b.1 r.1));
+            ap (λ u. record { place = place; entered = v; head = u; again = G step (G body y) }
+            ∷ (turns_by M mode placed step (G body y) ++ (turns_by M mode placed body y ++ turns_by M mode placed rest n))) h
+            ∙ (ap (λ u. record { place = place; entered = v; head = x; again = u }
+            ∷ (turns_by M mode placed step (G body y) ++ (turns_by M mode placed body y ++ turns_by M mode placed rest n))) s.0
+            ∙ ap (λ l. record { place = place; entered = v; head = x; again = P step (P body t) } ∷ l) (two _ _ _ _ s.1 (two _ _ _ _ b.1 r.1)));
         entries =
-            ap (λ y. record { place = place; statement = While place e body Done; leaf = y }
-            ∷ (entries_by M mode placed body (assumed M mode e true (g place)) ++ entries_by M mode placed rest (assumed M mode e false (g place)))) h
-            ∙ ap (λ l. record { place = place; statement = While place e body Done; leaf = x } ∷ l) (two _ _ _ _ b.2 r.2);
+            ap (λ u. record { place = place; statement = While place e step body Done; leaf = u }
+            ∷ (entries_by M mode placed step (G body y) ++ (entries_by M mode placed body y ++ entries_by M mode placed rest n))) h
+            ∙ ap (λ l. record { place = place; statement = While place e step body Done; leaf = x } ∷ l) (two _ _ _ _ s.2 (two _ _ _ _ b.2 r.2));
       }
 
   pub same_pass : (c : Code) (v : LeafValue) → AllByRecursion IsGiven (turns_by M mode K c v) → IsSame c v
@@ -93,12 +98,16 @@ module _ (M : LeafMeaning) (mode : Mode) (g : Place → LeafValue) (K : Heads) w
         turns = two _ _ _ _ sp.turns (two _ _ _ _ sq.turns r.1);
         entries = ap (λ l. record { place = place; statement = If place e p q Done; leaf = v } ∷ l) (two _ _ _ _ sp.entries (two _ _ _ _ sq.entries r.2));
       }
-  same_pass (While place e body rest) v h =
-      let x = K place e (P body) v in
+  same_pass (While place e step body rest) v h =
+      let x = head_by M mode K place e step body v in
       let t = assumed M mode e true x in
       let f = assumed M mode e false x in
-      same_loop place e body rest v h.0 (same_pass body t (all_left IsGiven (turns_by M mode K body t) (turns_by M mode K rest f) h.1))
-      (same_pass rest f (all_right IsGiven (turns_by M mode K body t) (turns_by M mode K rest f) h.1))
+      let ts = turns_by M mode K step (P body t) in
+      let tb = turns_by M mode K body t in
+      let tr = turns_by M mode K rest f in
+      let behind = all_right IsGiven ts (tb ++ tr) h.1 in
+      same_loop place e step body rest v h.0 (same_pass step (P body t) (all_left IsGiven ts (tb ++ tr) h.1)) (same_pass body t (all_left IsGiven tb tr behind))
+      (same_pass rest f (all_right IsGiven tb tr behind))
   same_pass (Block place body rest) v h =
       let y = P body v in
       let sb = same_pass body v (all_left IsGiven (turns_by M mode K body v) (turns_by M mode K rest y) h) in

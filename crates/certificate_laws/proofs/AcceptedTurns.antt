@@ -12,7 +12,7 @@ use Rattle.leaf_domain.proofs.Answered.{answers_then}
 use Rattle.plain_analysis.specs.declared.options.Options.{Options}
 use Rattle.plain_analysis.specs.Loops.{turn_of, final_leaf}
 use Rattle.plain_analysis.specs.Places.{entry_in, leaf_or}
-use Rattle.plain_analysis.specs.Statements.{Heads, Entry, passed, entries_by, final_heads, after_of}
+use Rattle.plain_analysis.specs.Statements.{Heads, Entry, passed, head_by, entries_by, final_heads, after_of, lap_of}
 use Rattle.plain_analysis.proofs.JoinLemmas.{join_answer}
 use Rattle.plain_analysis.proofs.Located.{IsListed}
 use Rattle.plain_analysis.proofs.Recursion.{after_answers, final_of_code, finals_are_inductive}
@@ -38,17 +38,18 @@ module _ (M : LeafMeaning) (laws : LeafLaws M) (o : Options) (A : TransferAnswer
   after : (c : Code) (v w : LeafValue) → IsLeafLike M v w → IsCodeOf v.variables c → IsLeafLike M v (after_of M o c w)
   after c v w a n = answers_then v w _ a (after_answers M laws o A c w a.valid (over c v w a n))
 
-  loop_good : (place : Place) (e : Term) (body : Code) (v : LeafValue) → M.valid v → IsTermOf v.variables e → IsCodeOf v.variables body
-      → (let x = final_leaf M o e (after_of M o body) v in
-      IsGood v.variables (record { place = place; entered = v; head = x; again = after_of M o body (assumed M o.mode e true x) }))
-  loop_good place e body v h ot ob =
-      let x = final_leaf M o e (after_of M o body) v in
-      let G = turn_of M o.mode e (after_of M o body) v in
-      let i = final_of_code M laws o A e body v h ot ob in
+  loop_good : (place : Place) (e : Term) (step body : Code) (v : LeafValue) → M.valid v → IsTermOf v.variables e → IsCodeOf v.variables step → IsCodeOf v.variables body
+      → (let x = final_leaf M o e (lap_of M o step body) v in
+      IsGood v.variables (record { place = place; entered = v; head = x; again = lap_of M o step body (assumed M o.mode e true x) }))
+  loop_good place e step body v h ot os ob =
+      let x = final_leaf M o e (lap_of M o step body) v in
+      let G = turn_of M o.mode e (lap_of M o step body) v in
+      let i = final_of_code M laws o A e step body v h ot os ob in
       let t = answers_then v x _ i (A.assumed_answers e true x (own e x i.valid (subst (λ m. IsTermOf m e) (sym i.same) ot))) in
-      let b = after body v (assumed M o.mode e true x) t ob in
-      let settled : M.leq (G x) x ≡ true = finals_are_inductive M laws o A e body v h ot ob in
-      let parts = joins v (after_of M o body (assumed M o.mode e true x)) x (record { first = h; second = b.valid; same = sym b.same }) i settled in
+      let yes = assumed M o.mode e true x in
+      let b = after step v (after_of M o body yes) (after body v yes t ob) os in
+      let settled : M.leq (G x) x ≡ true = finals_are_inductive M laws o A e step body v h ot os ob in
+      let parts = joins v (lap_of M o step body yes) x (record { first = h; second = b.valid; same = sym b.same }) i settled in
       record { valid = i.valid; count = i.same; inductive = both_true _ _ parts.0 parts.1 }
 
   moved : (n m : ℕ) (ts : List Turn) → n ≡ m → AllByRecursion (IsGood n) ts → AllByRecursion (IsGood m) ts
@@ -78,17 +79,20 @@ module _ (M : LeafMeaning) (laws : LeafLaws M) (o : Options) (A : TransferAnswer
       all_both (IsGood v.variables) _ _ (moved yes.variables v.variables _ t.same (good_turns p yes t.valid (over p v yes t n.1)))
       (all_both (IsGood v.variables) _ _ (moved no.variables v.variables _ f.same (good_turns q no f.valid (over q v no f n.2)))
       (moved w.variables v.variables _ j.same (good_turns rest w j.valid (over rest v w j n.3))))
-  good_turns (While place e body rest) v h n =
-      let x = final_leaf M o e (after_of M o body) v in
-      let i = final_of_code M laws o A e body v h n.0 n.1 in
+  good_turns (While place e step body rest) v h n =
+      let x = final_leaf M o e (lap_of M o step body) v in
+      let i = final_of_code M laws o A e step body v h n.0 n.1 n.2 in
       let term : IsTermOf x.variables e = subst (λ m. IsTermOf m e) (sym i.same) n.0 in
       let yes = assumed M o.mode e true x in
       let no = assumed M o.mode e false x in
+      let behind = after_of M o body yes in
       let t = answers_then v x yes i (A.assumed_answers e true x (own e x i.valid term)) in
-      let f = answers_then v x no i (A.assumed_answers e false x (own e x i.valid term)) in (
-        loop_good place e body v h n.0 n.1,
-        all_both (IsGood v.variables) _ _ (moved yes.variables v.variables _ t.same (good_turns body yes t.valid (over body v yes t n.1)))
-            (moved no.variables v.variables _ f.same (good_turns rest no f.valid (over rest v no f n.2))),
+      let f = answers_then v x no i (A.assumed_answers e false x (own e x i.valid term)) in
+      let b = after body v yes t n.2 in (
+        loop_good place e step body v h n.0 n.1 n.2,
+        all_both (IsGood v.variables) _ _ (moved behind.variables v.variables _ b.same (good_turns step behind b.valid (over step v behind b n.1)))
+            (all_both (IsGood v.variables) _ _ (moved yes.variables v.variables _ t.same (good_turns body yes t.valid (over body v yes t n.2)))
+            (moved no.variables v.variables _ f.same (good_turns rest no f.valid (over rest v no f n.3)))),
       )
   good_turns (Block place body rest) v h n =
       let w = after_of M o body v in
@@ -123,14 +127,18 @@ module _ (M : LeafMeaning) (mode : Mode) (H : Heads) where
       let behind = all_right (IsOne all) ep (eq ++ er) h.1 in
       all_both (IsFoundIn all) _ _ (heads_found all p t (all_left (IsOne all) ep (eq ++ er) h.1))
       (all_both (IsFoundIn all) _ _ (heads_found all q f (all_left (IsOne all) eq er behind)) (heads_found all rest j (all_right (IsOne all) eq er behind)))
-  heads_found all (While place e body rest) v h =
-      let x = H place e (passed M mode H body) v in
+  heads_found all (While place e step body rest) v h =
+      let x = head_by M mode H place e step body v in
       let t = assumed M mode e true x in
       let f = assumed M mode e false x in
+      let y = passed M mode H body t in
+      let es = entries_by M mode H step y in
       let eb = entries_by M mode H body t in
-      let er = entries_by M mode H rest f in (
+      let er = entries_by M mode H rest f in
+      let behind = all_right (IsOne all) es (eb ++ er) h.1 in (
         λ d. ap (leaf_or d) h.0,
-        all_both (IsFoundIn all) _ _ (heads_found all body t (all_left (IsOne all) eb er h.1)) (heads_found all rest f (all_right (IsOne all) eb er h.1)),
+        all_both (IsFoundIn all) _ _ (heads_found all step y (all_left (IsOne all) es (eb ++ er) h.1))
+            (all_both (IsFoundIn all) _ _ (heads_found all body t (all_left (IsOne all) eb er behind)) (heads_found all rest f (all_right (IsOne all) eb er behind))),
       )
   heads_found all (Block place body rest) v h =
       let y = passed M mode H body v in

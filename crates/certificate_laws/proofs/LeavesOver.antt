@@ -20,7 +20,7 @@ use Rattle.leaf_domain.proofs.Answered.{answers_self, answers_then}
 use Rattle.plain_analysis.specs.declared.options.Options.{Options}
 use Rattle.plain_analysis.specs.Loops.{final_leaf}
 use Rattle.plain_analysis.specs.Places.{is_same_place, entry_in, leaf_or, at_of}
-use Rattle.plain_analysis.specs.Statements.{Entry, after_of, entries_of}
+use Rattle.plain_analysis.specs.Statements.{Entry, after_of, lap_of, entries_of}
 use Rattle.plain_analysis.proofs.JoinLemmas.{join_answer}
 use Rattle.plain_analysis.proofs.Recursion.{after_answers, final_of_code}
 use Rattle.merged_findings.specs.Merged.{IsTreeWhere}
@@ -71,12 +71,18 @@ module _ (M : LeafMeaning) (laws : LeafLaws M) (o : Options) (A : TransferAnswer
       let w = M.join (after_of M o p yes) (after_of M o q no) in
       let j = join_answer M laws u (after_of M o p yes) (after_of M o q no) (after_over p yes t n.1) (after_over q no f n.2) in
       (a, all_both IsEntryOver (entries_of M o p yes) (entries_of M o q no ++ entries_of M o rest w) (entries_over p yes t n.1) (all_both IsEntryOver (entries_of M o q no) (entries_of M o rest w) (entries_over q no f n.2) (entries_over rest w j n.3)))
-  entries_over (While place e body rest) v a n =
-      let x = final_leaf M o e (after_of M o body) v in
-      let i = answers_then u v x a (final_of_code M laws o A e body v a.valid (term_over e v a n.0) (code_over body v a n.1)) in
+  entries_over (While place e step body rest) v a n =
+      let x = final_leaf M o e (lap_of M o step body) v in
+      let i = answers_then u v x a (final_of_code M laws o A e step body v a.valid (term_over e v a n.0) (code_over step v a n.1) (code_over body v a n.2)) in
       let yes = assumed M o.mode e true x in
       let no = assumed M o.mode e false x in
-      (i, all_both IsEntryOver (entries_of M o body yes) (entries_of M o rest no) (entries_over body yes (assumed_over e true x i n.0) n.1) (entries_over rest no (assumed_over e false x i n.0) n.2))
+      let t = assumed_over e true x i n.0 in
+      let f = assumed_over e false x i n.0 in
+      let y = after_of M o body yes in
+      let es = entries_of M o step y in
+      let eb = entries_of M o body yes in
+      let er = entries_of M o rest no in
+      (i, all_both IsEntryOver es (eb ++ er) (entries_over step y (after_over body yes t n.2) n.1) (all_both IsEntryOver eb er (entries_over body yes t n.2) (entries_over rest no f n.3)))
   entries_over (Block place body rest) v a n =
       let w = after_of M o body v in
       (a, all_both IsEntryOver (entries_of M o body v) (entries_of M o rest w) (entries_over body v a n.0) (entries_over rest w (after_over body v a n.0) n.1))

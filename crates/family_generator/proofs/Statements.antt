@@ -8,7 +8,7 @@ use Rattle.c_grammar.specs.declared.items.Item.{Item}
 use Rattle.c_grammar.specs.declared.items.Sign.TheVariants as signs
 use Rattle.c_grammar.specs.Grammar as grammar
 use Rattle.c_grammar.specs.Grammar.{at, of_input, Expresses, number, name, loose, binary, Listed, Raise, Outer, File, present, int, unqualified, only_type, bare, variables_end, no_return}
-use Rattle.c_grammar.specs.Within.{Full, WritesIn, none, more, choice, ends, otherwise, assign, input, count, assert, while, if_else, DeclaresIn, nothing, variables, last_var, no_more, body, main, FormsWithin, file}
+use Rattle.c_grammar.specs.Within.{Full, WritesIn, assignment, input_taken, count_behind, none, more, choice, ends, otherwise, change, assert, while, if_else, DeclaresIn, nothing, variables, last_var, no_more, body, main, FormsWithin, file}
 use Rattle.family_generator.proofs.BlockTexts.{Block, Switched, Bounded, Checked}
 use Rattle.family_generator.proofs.Signs.{laid, laid_joined, laid_again, sign_in, place_in, block_signs, condition_count, blocks_signs, header_signs, file_signs}
 
@@ -52,7 +52,7 @@ abbrev count_items : Place → Place → Place → ℕ → List Item
 count_items p q r y = at p (signs.Name y) ∷ at q signs.PlusPlus ∷ at r signs.Semicolon ∷ []
 
 reset_written : (k : ℕ) (p q r s : Place) (y : ℕ) (n : ℤ) → Lists k (reset_items p q r s y n)
-reset_written k p q r s y n = record { code = _; written = more {ts = reset_items p q r s y n} {us = []} (assign p q s y {ts = at r (signs.Number n) ∷ []} (literal r n)) none }
+reset_written k p q r s y n = record { code = _; written = more {ts = reset_items p q r s y n} {us = []} (change s (assignment p q y {ts = at r (signs.Number n) ∷ []} (literal r n))) none }
 
 -- ---- blocks
 
@@ -60,7 +60,7 @@ switched_lists : (a p q r s t u z : Place) (x n : ℕ) (rest : List Item) → Li
 switched_lists a p q r s t u z x n rest h = record {
   code = _;
   written = choice a n {ts = input_items p q r s t u x} {us = at z signs.GroupEnd ∷ []} {vs = rest} {k = 63}
-      (more {ts = input_items p q r s t u x} {us = []} (input p q r s t u x of_input) none) (ends z) h.written;
+      (more {ts = input_items p q r s t u x} {us = []} (change u (input_taken p q r s t x of_input)) none) (ends z) h.written;
 }
 
 abbrev while_items : Place → Place → Place → Place → Place → Place → Place → Place → Place → ℕ → ℤ → List Item
@@ -71,7 +71,7 @@ while_written : (p q r s t u v w x : Place) (y : ℕ) (n : ℤ) → Lists 63 (wh
 while_written p q r s t u v w x y n = record {
   code = _;
   written = more {ts = while_items p q r s t u v w x y n} {us = []}
-      (while p q u {ts = at r (signs.Name y) ∷ at s (signs.Oper Lt) ∷ at t (signs.Number n) ∷ []} {us = count_items v w x y} {k = 62} (relation r s t Lt y n refl) (count v w x y Raise)) none;
+      (while p q u {ts = at r (signs.Name y) ∷ at s (signs.Oper Lt) ∷ at t (signs.Number n) ∷ []} {us = count_items v w x y} {k = 62} (relation r s t Lt y n refl) (change x (count_behind v w y Raise))) none;
 }
 
 bounded_lists : (a p q r s t u v w x e i j l m z : Place) (y n : ℕ) (most : ℤ) (rest : List Item) → Lists 64 rest
@@ -101,8 +101,8 @@ checked_lists a b c d e f g h i j l m n p q r s t u v w o k z x y rest lists = r
   code = _;
   written = more {ts = choice_items a b c d e f g h i j l m n p q r s x y} {us = at t signs.Assert ∷ at u signs.Open ∷ (relation_items v w o y Ge ++ at k signs.Close ∷ at z signs.Semicolon ∷ rest)}
       (if_else a b f n {ts = relation_items c d e x Gt} {us = sum_items g h i j l m y} {vs = reset_items p q r s y (pos 0)} {k = 63} (relation c d e Gt x (pos 0) refl)
-      (assign g h m y {ts = at i (signs.Name y) ∷ at j (signs.Oper Add) ∷ at l (signs.Number (pos 1)) ∷ []} (sum i j l y (pos 1)))
-      (assign p q s y {ts = at r (signs.Number (pos 0)) ∷ []} (literal r (pos 0))))
+      (change m (assignment g h y {ts = at i (signs.Name y) ∷ at j (signs.Oper Add) ∷ at l (signs.Number (pos 1)) ∷ []} (sum i j l y (pos 1))))
+      (change s (assignment p q y {ts = at r (signs.Number (pos 0)) ∷ []} (literal r (pos 0)))))
       (more {ts = at t signs.Assert ∷ at u signs.Open ∷ (relation_items v w o y Ge ++ at k signs.Close ∷ at z signs.Semicolon ∷ [])} {us = rest}
       (assert t u k z {ts = relation_items v w o y Ge} (relation v w o Ge y (pos 0) refl)) lists.written);
 }

@@ -74,7 +74,7 @@ ListsAllStops l c = (values : List ℤ) → IsValid (plain l.model) values → (
 abbrev pub heads_at : Certificate → List Bool → Whole → Heads
 heads_at c vector p = given_heads intervals c.loops.items vector (intervals.start p.start)
 
--- whether the head of the loop at the place holds what enters it, and what its body makes of it
+-- whether the head of the loop at the place holds what enters it, and what its body and then its step make of it
 abbrev pub is_inductive_at : Certificate → List Bool → Whole → Place → Bool
 is_inductive_at c vector p place = inductive_in intervals (turns_by intervals c.mode (heads_at c vector p) p.body (intervals.start p.start)) place
 

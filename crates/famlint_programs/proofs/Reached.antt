@@ -58,9 +58,10 @@ projected_in truths x (If place test p q rest) h =
     in_cons x place (places_of (projected truths p) ++ (places_of (projected truths q) ++ places_of (projected truths rest))) (places_of p ++ (places_of q ++ places_of rest))
     (in_both x (places_of (projected truths p)) (places_of p) (places_of (projected truths q) ++ places_of (projected truths rest)) (places_of q ++ places_of rest) (projected_in truths x p)
     (in_both x (places_of (projected truths q)) (places_of q) (places_of (projected truths rest)) (places_of rest) (projected_in truths x q) (projected_in truths x rest))) h
-projected_in truths x (While place test body rest) h =
-    in_cons x place (places_of (projected truths body) ++ places_of (projected truths rest)) (places_of body ++ places_of rest)
-    (in_both x (places_of (projected truths body)) (places_of body) (places_of (projected truths rest)) (places_of rest) (projected_in truths x body) (projected_in truths x rest)) h
+projected_in truths x (While place test step body rest) h =
+    in_cons x place (places_of (projected truths step) ++ (places_of (projected truths body) ++ places_of (projected truths rest))) (places_of step ++ (places_of body ++ places_of rest))
+    (in_both x (places_of (projected truths step)) (places_of step) (places_of (projected truths body) ++ places_of (projected truths rest)) (places_of body ++ places_of rest) (projected_in truths x step)
+    (in_both x (places_of (projected truths body)) (places_of body) (places_of (projected truths rest)) (places_of rest) (projected_in truths x body) (projected_in truths x rest))) h
 projected_in truths x (Block place body rest) h =
     in_cons x place (places_of (projected truths body) ++ places_of (projected truths rest)) (places_of body ++ places_of rest)
     (in_both x (places_of (projected truths body)) (places_of body) (places_of (projected truths rest)) (places_of rest) (projected_in truths x body) (projected_in truths x rest)) h

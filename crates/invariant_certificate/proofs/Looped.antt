@@ -11,7 +11,7 @@ use Rattle.c_tree.specs.Tree.{Code, Done, Assign, Input, Assert, If, While, Bloc
 use Rattle.c_tree.proofs.Listed.{places_of-followed}
 use Rattle.leaf_domain.specs.Leaves.{LeafValue, LeafMeaning}
 use Rattle.leaf_domain.specs.Transfer.{assumed, assigned, forgotten}
-use Rattle.plain_analysis.specs.Statements.{Heads, passed}
+use Rattle.plain_analysis.specs.Statements.{Heads, passed, head_by}
 use Rattle.lifted_analysis.specs.Turns.{Turn, turns_by, loop_places}
 use Rattle.certificate_format.proofs.LoopLines.{loops_followed}
 use Rattle.invariant_certificate.proofs.Sublists.{Within, none, takes, skips, both, at_left, at_right}
@@ -29,9 +29,10 @@ loops_projected ts (Assert place test rest) = loops_projected ts rest
 loops_projected ts (If place test p q rest) =
     both (loop_places (projected ts p)) (loop_places p) (loop_places (projected ts q) ++ loop_places (projected ts rest)) (loop_places q ++ loop_places rest) (loops_projected ts p)
     (both (loop_places (projected ts q)) (loop_places q) (loop_places (projected ts rest)) (loop_places rest) (loops_projected ts q) (loops_projected ts rest))
-loops_projected ts (While place test body rest) =
-    takes place (loop_places (projected ts body) ++ loop_places (projected ts rest)) (loop_places body ++ loop_places rest)
-    (both (loop_places (projected ts body)) (loop_places body) (loop_places (projected ts rest)) (loop_places rest) (loops_projected ts body) (loops_projected ts rest))
+loops_projected ts (While place test step body rest) =
+    takes place (loop_places (projected ts step) ++ (loop_places (projected ts body) ++ loop_places (projected ts rest))) (loop_places step ++ (loop_places body ++ loop_places rest))
+    (both (loop_places (projected ts step)) (loop_places step) (loop_places (projected ts body) ++ loop_places (projected ts rest)) (loop_places body ++ loop_places rest) (loops_projected ts step)
+    (both (loop_places (projected ts body)) (loop_places body) (loop_places (projected ts rest)) (loop_places rest) (loops_projected ts body) (loops_projected ts rest)))
 loops_projected ts (Block place body rest) =
     both (loop_places (projected ts body)) (loop_places body) (loop_places (projected ts rest)) (loop_places rest) (loops_projected ts body) (loops_projected ts rest)
 loops_projected ts (Skip place rest) = loops_projected ts rest
@@ -52,9 +53,10 @@ places_projected ts (If place test p q rest) =
     takes place (places_of (projected ts p) ++ (places_of (projected ts q) ++ places_of (projected ts rest))) (places_of p ++ (places_of q ++ places_of rest))
     (both (places_of (projected ts p)) (places_of p) (places_of (projected ts q) ++ places_of (projected ts rest)) (places_of q ++ places_of rest) (places_projected ts p)
     (both (places_of (projected ts q)) (places_of q) (places_of (projected ts rest)) (places_of rest) (places_projected ts q) (places_projected ts rest)))
-places_projected ts (While place test body rest) =
-    takes place (places_of (projected ts body) ++ places_of (projected ts rest)) (places_of body ++ places_of rest)
-    (both (places_of (projected ts body)) (places_of body) (places_of (projected ts rest)) (places_of rest) (places_projected ts body) (places_projected ts rest))
+places_projected ts (While place test step body rest) =
+    takes place (places_of (projected ts step) ++ (places_of (projected ts body) ++ places_of (projected ts rest))) (places_of step ++ (places_of body ++ places_of rest))
+    (both (places_of (projected ts step)) (places_of step) (places_of (projected ts body) ++ places_of (projected ts rest)) (places_of body ++ places_of rest) (places_projected ts step)
+    (both (places_of (projected ts body)) (places_of body) (places_of (projected ts rest)) (places_of rest) (places_projected ts body) (places_projected ts rest)))
 places_projected ts (Block place body rest) =
     takes place (places_of (projected ts body) ++ places_of (projected ts rest)) (places_of body ++ places_of rest)
     (both (places_of (projected ts body)) (places_of body) (places_of (projected ts rest)) (places_of rest) (places_projected ts body) (places_projected ts rest))
@@ -77,9 +79,10 @@ loops_placed (If place test p q rest) =
     skips place (loop_places p ++ (loop_places q ++ loop_places rest)) (places_of p ++ (places_of q ++ places_of rest))
     (both (loop_places p) (places_of p) (loop_places q ++ loop_places rest) (places_of q ++ places_of rest) (loops_placed p)
     (both (loop_places q) (places_of q) (loop_places rest) (places_of rest) (loops_placed q) (loops_placed rest)))
-loops_placed (While place test body rest) =
-    takes place (loop_places body ++ loop_places rest) (places_of body ++ places_of rest)
-    (both (loop_places body) (places_of body) (loop_places rest) (places_of rest) (loops_placed body) (loops_placed rest))
+loops_placed (While place test step body rest) =
+    takes place (loop_places step ++ (loop_places body ++ loop_places rest)) (places_of step ++ (places_of body ++ places_of rest))
+    (both (loop_places step) (places_of step) (loop_places body ++ loop_places rest) (places_of body ++ places_of rest) (loops_placed step)
+    (both (loop_places body) (places_of body) (loop_places rest) (places_of rest) (loops_placed body) (loops_placed rest)))
 loops_placed (Block place body rest) =
     skips place (loop_places body ++ loop_places rest) (places_of body ++ places_of rest)
     (both (loop_places body) (places_of body) (loop_places rest) (places_of rest) (loops_placed body) (loops_placed rest))
@@ -108,13 +111,16 @@ module _ (M : LeafMeaning) (mode : Mode) (H : Heads) where
       ∙ ap (λ l. loop_places p ++ l) (map-append turn_place (turns_by M mode H q y) (turns_by M mode H rest z)
       ∙ ap (λ l. l ++ map turn_place (turns_by M mode H rest z)) (turns_placed q y h.1)
       ∙ ap (λ l. loop_places q ++ l) (turns_placed rest z h.2))
-  turns_placed (While place e body rest) v h =
-      let head = H place e (passed M mode H body) v in
+  turns_placed (While place e step body rest) v h =
+      let head = head_by M mode H place e step body v in
       let x = assumed M mode e true head in
       let y = assumed M mode e false head in
-      ap (λ l. place ∷ l) (map-append turn_place (turns_by M mode H body x) (turns_by M mode H rest y)
-      ∙ ap (λ l. l ++ map turn_place (turns_by M mode H rest y)) (turns_placed body x h.0)
-      ∙ ap (λ l. loop_places body ++ l) (turns_placed rest y h.1))
+      let z = passed M mode H body x in
+      ap (λ l. place ∷ l) (map-append turn_place (turns_by M mode H step z) (turns_by M mode H body x ++ turns_by M mode H rest y)
+      ∙ ap (λ l. l ++ map turn_place (turns_by M mode H body x ++ turns_by M mode H rest y)) (turns_placed step z h.0)
+      ∙ ap (λ l. loop_places step ++ l) (map-append turn_place (turns_by M mode H body x) (turns_by M mode H rest y)
+      ∙ ap (λ l. l ++ map turn_place (turns_by M mode H rest y)) (turns_placed body x h.1)
+      ∙ ap (λ l. loop_places body ++ l) (turns_placed rest y h.2)))
   turns_placed (Block place body rest) v h =
       let y = passed M mode H body v in
       map-append turn_place (turns_by M mode H body v) (turns_by M mode H rest y)

@@ -5,7 +5,7 @@ use Rattle.std.proofs.lemmas.Bool.Decides.{nat_tests}
 use Rattle.std.proofs.lemmas.List.{length-map, length-reverse, take_more}
 use Rattle.c_grammar.specs.Deep.{tail_depth}
 use Rattle.c_grammar.specs.Machine as machine
-use Rattle.item_reader.specs.declared.states.Link.{Link}
+use Rattle.item_reader.specs.declared.unfinished.Link.{Link}
 use Rattle.item_reader.specs.declared.states.Tailing.{Tailing}
 use Rattle.item_reader.specs.declared.states.Tailing.TheVariants as tailings
 use Rattle.item_reader.specs.Limits.{capped}

@@ -9,7 +9,7 @@ use Rattle.c_tree.specs.declared.tree.Stmt.TheVariants as variant
 use Rattle.c_tree.specs.declared.tree.Stmt.TheViews.{outs-Skip, outs-Input, outs-If, outs-While, outs-Block, outs-Cond}
 use Rattle.c_tree.specs.Tree.{Code, Skip, Input, If, While, Block, Cond}
 use Rattle.c_tree.specs.View.{front, code, term}
-use Rattle.c_tree.proofs.Views.{front_out}
+use Rattle.c_tree.proofs.Views.{front_out, code-append}
 use Rattle.c_tree.proofs.Listed.{code-push}
 
 pub front_Skip : (place : Place) (rest : Code) → front (variant.Skip place) rest ≡ Skip place rest
@@ -21,8 +21,8 @@ front_Input place x rest = rw (front_out, outs-Input) refl
 pub front_If : (place : Place) (test : Expr) (p q : Vec Stmt Global) (rest : Code) → front (variant.If place test p q) rest ≡ If place (term test) (code p.items) (code q.items) rest
 front_If place test p q rest = rw (front_out, outs-If) refl
 
-pub front_While : (place : Place) (test : Expr) (body : Vec Stmt Global) (rest : Code) → front (variant.While place test body) rest ≡ While place (term test) (code body.items) rest
-front_While place test body rest = rw (front_out, outs-While) refl
+pub front_While : (place : Place) (test : Expr) (step body : Vec Stmt Global) (rest : Code) → front (variant.While place test step body) rest ≡ While place (term test) (code step.items) (code body.items) rest
+front_While place test step body rest = rw (front_out, outs-While) refl
 
 pub front_Block : (place : Place) (body : Vec Stmt Global) (rest : Code) → front (variant.Block place body) rest ≡ Block place (code body.items) rest
 front_Block place body rest = rw (front_out, outs-Block) refl
@@ -30,4 +30,4 @@ front_Block place body rest = rw (front_out, outs-Block) refl
 pub front_Cond : (number : ℕ) (p q : Vec Stmt Global) (rest : Code) → front (variant.Cond number p q) rest ≡ Cond number (code p.items) (code q.items) rest
 front_Cond number p q rest = rw (front_out, outs-Cond) refl
 
-pub ruleset holding = (front_Skip, front_Input, front_If, front_While, front_Block, front_Cond, code-push)
+pub ruleset holding = (front_Skip, front_Input, front_If, front_While, front_Block, front_Cond, code-push, code-append)

@@ -1,8 +1,8 @@
 -- Lists whose innermost comes last.
 use Rattle.std.proofs.Common.{◌≡◌, List, [], ◌∷◌, ◌++◌, refl}
 use Rattle.std.proofs.lemmas.List.{reverse-append}
-use Rattle.item_reader.specs.declared.states.Frame.{Frame}
-use Rattle.item_reader.specs.declared.states.Link.{Link}
+use Rattle.item_reader.specs.declared.unfinished.Frame.{Frame}
+use Rattle.item_reader.specs.declared.unfinished.Link.{Link}
 use Rattle.item_reader.specs.Views.{as_frame, as_frames, as_link, as_links}
 
 pub frames_none : as_frames [] ≡ []

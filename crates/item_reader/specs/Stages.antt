@@ -1,9 +1,9 @@
 -- The stages of a file: which function takes the step of a state.
 use Rattle.std.specs.Prelude.{ℕ}
-use Rattle.c_grammar.specs.Machine.{ReadingState, Outside, AfterStatic, AfterExtern, AfterConst, AfterEnum, AfterVoidType, AfterType, Declaring, Bare, Starting, Negating, Started, Listing, Enumerated, AfterDefine, Defining, NegativeDefining, Enclosing, NegativeEnclosing, Enclosed, Parameters, InParameters, AfterVoid, AfterParameters, Ready, LocalConst, LocalType, NextLocal, LocalNamed, Ended, Wants, Has, Counting, Named, Opens, VoidComes, VoidCloses, CallComes, CallOpens, CallCloses, Finishing, Returning, Returned, Closing, Over}
+use Rattle.c_grammar.specs.Machine.{ReadingState, Outside, AfterStatic, AfterExtern, AfterConst, AfterEnum, AfterVoidType, AfterType, Declaring, Bare, Starting, Negating, Started, Listing, Enumerated, AfterDefine, Defining, NegativeDefining, Enclosing, NegativeEnclosing, Enclosed, Parameters, InParameters, AfterVoid, AfterParameters, Ready, LocalConst, LocalType, NextLocal, LocalNamed, Ended, Wants, Has, Counting, Named, Opens, ForOpens, StartComes, TestComes, StepComes, VoidComes, VoidCloses, CallComes, CallOpens, CallCloses, Finishing, Returning, Returned, Closing, Over}
 
 -- 0 before a declarator, 1 in it, 2 in a definition, 3 at a statement, 4 in a declaration in `main`, 5 at an expression,
--- 6 in a call, 7 in the parentheses of a function that is declared or at the end of a file
+-- 6 in the parentheses of a `for`, 7 in a call, 8 in the parentheses of a function that is declared or at the end of a file
 abbrev pub stage : ReadingState → ℕ
 stage (Outside secs ds) = 0
 stage (AfterStatic secs ds) = 0
@@ -27,8 +27,8 @@ stage (NegativeEnclosing x secs ds) = 2
 stage (Enclosed x n secs ds) = 2
 stage (Ready outer) = 3
 stage (Ended outer c) = 3
-stage (Counting p u outer) = 3
-stage (Named p x outer) = 3
+stage (Counting p u site) = 3
+stage (Named p x site) = 3
 stage (Finishing made) = 3
 stage (LocalConst outer) = 4
 stage (LocalType kind words outer) = 4
@@ -37,16 +37,20 @@ stage (LocalNamed kind p x outer) = 4
 stage (Wants fs u) = 5
 stage (Has fs u e) = 5
 stage (Opens u) = 5
-stage (VoidComes p outer) = 6
-stage (VoidCloses p outer) = 6
-stage (CallComes p outer) = 6
-stage (CallOpens made) = 6
-stage (CallCloses made) = 6
-stage (Parameters aim) = 7
-stage (InParameters aim) = 7
-stage (AfterVoid aim) = 7
-stage (AfterParameters aim) = 7
-stage (Returning p ds made) = 7
-stage (Returned ds made) = 7
-stage (Closing ds made) = 7
-stage (Over f parts) = 7
+stage (ForOpens outer) = 6
+stage (StartComes outer) = 6
+stage (TestComes start outer) = 6
+stage (StepComes start p e outer) = 6
+stage (VoidComes p outer) = 7
+stage (VoidCloses p outer) = 7
+stage (CallComes p outer) = 7
+stage (CallOpens made) = 7
+stage (CallCloses made) = 7
+stage (Parameters aim) = 8
+stage (InParameters aim) = 8
+stage (AfterVoid aim) = 8
+stage (AfterParameters aim) = 8
+stage (Returning p ds made) = 8
+stage (Returned ds made) = 8
+stage (Closing ds made) = 8
+stage (Over f parts) = 8

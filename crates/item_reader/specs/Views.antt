@@ -14,15 +14,17 @@ use Rattle.item_reader.specs.declared.words.Update.{Update}
 use Rattle.item_reader.specs.declared.words.Update.TheVariants as updates
 use Rattle.item_reader.specs.declared.words.Count.{Count}
 use Rattle.item_reader.specs.declared.words.Count.TheVariants as counts
-use Rattle.item_reader.specs.declared.states.Frame.{Frame}
-use Rattle.item_reader.specs.declared.states.Frame.TheVariants as frames
-use Rattle.item_reader.specs.declared.states.Link.{Link}
-use Rattle.item_reader.specs.declared.states.Stack.{Stack}
-use Rattle.item_reader.specs.declared.states.Stack.TheVariants as stacks
-use Rattle.item_reader.specs.declared.states.Purpose.{Purpose}
-use Rattle.item_reader.specs.declared.states.Purpose.TheVariants as purposes
-use Rattle.item_reader.specs.declared.states.Pending.{Pending}
-use Rattle.item_reader.specs.declared.states.Pending.TheVariants as pendings
+use Rattle.item_reader.specs.declared.unfinished.Frame.{Frame}
+use Rattle.item_reader.specs.declared.unfinished.Frame.TheVariants as frames
+use Rattle.item_reader.specs.declared.unfinished.Link.{Link}
+use Rattle.item_reader.specs.declared.unfinished.Stack.{Stack}
+use Rattle.item_reader.specs.declared.unfinished.Stack.TheVariants as stacks
+use Rattle.item_reader.specs.declared.unfinished.Site.{Site}
+use Rattle.item_reader.specs.declared.unfinished.Site.TheVariants as sites
+use Rattle.item_reader.specs.declared.unfinished.Purpose.{Purpose}
+use Rattle.item_reader.specs.declared.unfinished.Purpose.TheVariants as purposes
+use Rattle.item_reader.specs.declared.unfinished.Pending.{Pending}
+use Rattle.item_reader.specs.declared.unfinished.Pending.TheVariants as pendings
 use Rattle.item_reader.specs.declared.states.Sections.{Sections}
 use Rattle.item_reader.specs.declared.states.Sections.TheVariants as sections
 use Rattle.item_reader.specs.declared.words.Leading.{Leading}
@@ -76,7 +78,12 @@ as_stack (stacks.Yes' links number made q outer) = machine.Yes (as_links links.i
 as_stack (stacks.No' links number first made q outer) = machine.No (as_links links.items) number (code first.items) (code made.items) (as_stack outer)
 as_stack (stacks.ThenOf' place test q outer) = machine.ThenOf place (term test) (as_stack outer)
 as_stack (stacks.ElseOf' place test first q outer) = machine.ElseOf place (term test) (code first.items) (as_stack outer)
-as_stack (stacks.LoopOf' place test q outer) = machine.LoopOf place (term test) (as_stack outer)
+as_stack (stacks.LoopOf' start place test advance q outer) = machine.LoopOf (code start.items) place (term test) (code advance.items) (as_stack outer)
+
+abbrev pub as_site : Site → machine.Site
+as_site (sites.AsStatement outer) = machine.AsStatement (as_stack outer)
+as_site (sites.AsStart outer) = machine.AsStart (as_stack outer)
+as_site (sites.AsStep start place test outer) = machine.AsStep (code start.items) place (term test) (as_stack outer)
 
 abbrev pub as_qualifier : Qualifier → grammar.Qualifier
 as_qualifier qualifiers.Unqualified = grammar.Unqualified
@@ -84,15 +91,16 @@ as_qualifier qualifiers.Constant = grammar.Constant
 as_qualifier (qualifiers.Counted last) = grammar.Counted last
 
 abbrev pub as_purpose : Purpose → machine.Use
-as_purpose (purposes.ToAssign place target outer) = machine.ToAssign place target (as_stack outer)
+as_purpose (purposes.ToAssign place target site) = machine.ToAssign place target (as_site site)
 as_purpose (purposes.ToInitialise kind place target outer) = machine.ToInitialise (as_qualifier kind) place target (as_stack outer)
-as_purpose (purposes.ToUpdate place target update outer) = machine.ToUpdate place target (as_update update) (as_stack outer)
+as_purpose (purposes.ToUpdate place target update site) = machine.ToUpdate place target (as_update update) (as_site site)
 as_purpose (purposes.ToAssert place outer) = machine.ToAssert place (as_stack outer)
 as_purpose (purposes.ToChoose place outer) = machine.ToChoose place (as_stack outer)
 as_purpose (purposes.ToLoop place outer) = machine.ToLoop place (as_stack outer)
+as_purpose (purposes.ToRepeat start place outer) = machine.ToRepeat (code start.items) place (as_stack outer)
 
 abbrev pub as_pending : Pending → machine.Pending
-as_pending (pendings.OfStatement outer statement) = machine.OfStatement (as_stack outer) (front statement Done)
+as_pending (pendings.OfStatement site statement) = machine.OfStatement (as_site site) (front statement Done)
 as_pending (pendings.OfLocal kind outer statement) = machine.OfLocal (as_qualifier kind) (as_stack outer) (front statement Done)
 
 abbrev pub as_sections : Sections → machine.Sections
@@ -158,9 +166,13 @@ as_state (states.LocalNamed kind place target outer) = machine.LocalNamed (as_qu
 as_state (states.Ended outer statement) = machine.Ended (as_stack outer) (front statement Done)
 as_state (states.Wants fs purpose) = machine.Wants (as_frames fs.items) (as_purpose purpose)
 as_state (states.Has fs purpose operand) = machine.Has (as_frames fs.items) (as_purpose purpose) (term operand)
-as_state (states.Counting place count outer) = machine.Counting place (as_count count) (as_stack outer)
-as_state (states.Named place target outer) = machine.Named place target (as_stack outer)
+as_state (states.Counting place count site) = machine.Counting place (as_count count) (as_site site)
+as_state (states.Named place target site) = machine.Named place target (as_site site)
 as_state (states.Opens purpose) = machine.Opens (as_purpose purpose)
+as_state (states.ForOpens outer) = machine.ForOpens (as_stack outer)
+as_state (states.StartComes outer) = machine.StartComes (as_stack outer)
+as_state (states.TestComes start outer) = machine.TestComes (code start.items) (as_stack outer)
+as_state (states.StepComes start place test outer) = machine.StepComes (code start.items) place (term test) (as_stack outer)
 as_state (states.VoidComes place outer) = machine.VoidComes place (as_stack outer)
 as_state (states.VoidCloses place outer) = machine.VoidCloses place (as_stack outer)
 as_state (states.CallComes place outer) = machine.CallComes place (as_stack outer)

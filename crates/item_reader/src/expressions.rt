@@ -3,16 +3,17 @@
 
 ghost use Rattle.std.specs.Prelude.{◌≡◌, [], ◌∷◌, Some, option_map, IfOk};
 ghost use Rattle.c_tree.specs.Tree.{Assign, Done};
-ghost use Rattle.c_tree.specs.View.{term, front};
-ghost use Rattle.c_grammar.specs.Grammar as grammar;
+ghost use Rattle.c_tree.specs.View.{term};
 ghost use Rattle.c_grammar.specs.Machine as machine;
 ghost use Rattle.c_grammar.specs.declared.items.Sign.TheVariants as signs;
-ghost use Rattle.item_reader.specs.Views.{Moves, as_frame, as_frames, as_purpose, as_stack, as_state, as_update};
+ghost use Rattle.item_reader.specs.Views.{Moves, as_frame, as_frames, as_purpose, as_stack, as_state};
 
-use crate::frames::{binary, no_frames, prefix_of, settle, take_frame, tighter, with_frame};
+use crate::changes::{assignment, closed_change, ended_change, updated};
+use crate::frames::{no_frames, prefix_of, settle, take_frame, tighter, with_frame};
 use crate::stacks::folded;
-use crate::states::{Frame, Pending, Purpose, ReadingState, Stack};
-use crate::words::{Prefix, Update};
+use crate::states::ReadingState;
+use crate::unfinished::{Frame, Pending, Purpose, Site, Stack};
+use crate::words::Prefix;
 use c_grammar::Sign;
 use c_tree::{Expr, Op, Stmt};
 use fam_outer::{NoMemory, Place};
@@ -60,9 +61,9 @@ fn input_for(purpose: Purpose) -> Option<ReadingState>
         Purpose::ToAssign {
             place,
             target,
-            outer,
+            site,
         } => Pending::OfStatement {
-            outer,
+            site,
             statement: Stmt::Input { place, target },
         },
         Purpose::ToInitialise {
@@ -78,7 +79,8 @@ fn input_for(purpose: Purpose) -> Option<ReadingState>
         Purpose::ToUpdate { .. }
         | Purpose::ToAssert { .. }
         | Purpose::ToChoose { .. }
-        | Purpose::ToLoop { .. } => return None,
+        | Purpose::ToLoop { .. }
+        | Purpose::ToRepeat { .. } => return None,
     };
     Some(ReadingState::CallOpens { pending })
 }
@@ -120,43 +122,45 @@ fn prefixed(frames: Vec<Frame>, purpose: Purpose, op: Op) -> Result<Option<Readi
     }
 }
 
-/// The statement that changes a variable by an expression.
-pub(crate) fn updated(
+/// The loop with this test and without a step begins.
+fn looped(
     alloc: Global,
     place: Place,
-    target: u32,
-    update: Update,
-    by: Expr,
-) -> Result<Stmt, NoMemory>
-    ensures { IfOk result (λ made. front made Done
-        ≡ grammar.updated place target (as_update update) (term by)) }
+    test: Expr,
+    outer: Stack,
+) -> Result<Option<ReadingState>, NoMemory>
+    ensures { Moves result (Some (machine.Ready
+        (machine.LoopOf Done place (term test) Done (as_stack outer)))) }
 {
-    let op = match update {
-        Update::Sum => Op::Add,
-        Update::Difference => Op::Sub,
-        Update::Product => Op::Mul,
-        Update::Quotient => Op::Div,
-        Update::Remainder => Op::Rem,
-    };
-    let value = binary(alloc, op, Expr::Var(target), by)?;
-    Ok(Stmt::Assign {
+    let outer = Stack::LoopOf {
+        start: Vec::new(alloc),
         place,
-        target,
-        value,
-    })
+        test,
+        advance: Vec::new(alloc),
+        outer: Box::new(alloc, outer)?,
+    };
+    Ok(Some(ReadingState::Ready { outer }))
 }
 
-/// The expression in the parentheses of a statement is whole.
+/// The expression before a closing parenthesis is whole.
 fn tested(alloc: Global, purpose: Purpose, test: Expr) -> Result<Option<ReadingState>, NoMemory>
     ensures { Moves result (machine.tested (as_purpose purpose) (term test)) }
 {
     match purpose {
-        Purpose::ToAssign { .. } | Purpose::ToInitialise { .. } | Purpose::ToUpdate { .. } => {
-            Ok(None)
-        }
+        Purpose::ToAssign {
+            place,
+            target,
+            site,
+        } => closed_change(alloc, site, assignment(place, target, test)),
+        Purpose::ToUpdate {
+            place,
+            target,
+            update,
+            site,
+        } => closed_change(alloc, site, updated(alloc, place, target, update, test)?),
         Purpose::ToAssert { place, outer } => {
             let pending = Pending::OfStatement {
-                outer,
+                site: Site::AsStatement { outer },
                 statement: Stmt::Assert { place, test },
             };
             Ok(Some(ReadingState::Finishing { pending }))
@@ -169,14 +173,8 @@ fn tested(alloc: Global, purpose: Purpose, test: Expr) -> Result<Option<ReadingS
             };
             Ok(Some(ReadingState::Ready { outer }))
         }
-        Purpose::ToLoop { place, outer } => {
-            let outer = Stack::LoopOf {
-                place,
-                test,
-                outer: Box::new(alloc, outer)?,
-            };
-            Ok(Some(ReadingState::Ready { outer }))
-        }
+        Purpose::ToLoop { place, outer } => looped(alloc, place, test, outer),
+        Purpose::ToInitialise { .. } | Purpose::ToRepeat { .. } => Ok(None),
     }
 }
 
@@ -211,15 +209,10 @@ fn with_local(
     ensures { IfOk result (λ made. as_stack made
         ≡ machine.folded (as_stack outer) (Assign place target (term value) Done)) }
 {
-    let statement = Stmt::Assign {
-        place,
-        target,
-        value,
-    };
-    folded(alloc, outer, statement)
+    folded(alloc, outer, assignment(place, target, value))
 }
 
-/// The expression that a statement or a declaration ends with is whole.
+/// The expression before a semicolon is whole.
 fn assigned(alloc: Global, purpose: Purpose, value: Expr) -> Result<Option<ReadingState>, NoMemory>
     ensures { Moves result (machine.assigned (as_purpose purpose) (term value)) }
 {
@@ -227,15 +220,8 @@ fn assigned(alloc: Global, purpose: Purpose, value: Expr) -> Result<Option<Readi
         Purpose::ToAssign {
             place,
             target,
-            outer,
-        } => Ok(Some(ReadingState::Ended {
-            outer,
-            statement: Stmt::Assign {
-                place,
-                target,
-                value,
-            },
-        })),
+            site,
+        } => ended_change(alloc, site, assignment(place, target, value)),
         Purpose::ToInitialise {
             kind: _kind,
             place,
@@ -249,11 +235,18 @@ fn assigned(alloc: Global, purpose: Purpose, value: Expr) -> Result<Option<Readi
             place,
             target,
             update,
+            site,
+        } => ended_change(alloc, site, updated(alloc, place, target, update, value)?),
+        Purpose::ToRepeat {
+            start,
+            place,
             outer,
-        } => {
-            let statement = updated(alloc, place, target, update, value)?;
-            Ok(Some(ReadingState::Ended { outer, statement }))
-        }
+        } => Ok(Some(ReadingState::StepComes {
+            start,
+            place,
+            test: value,
+            outer,
+        })),
         Purpose::ToAssert { .. } | Purpose::ToChoose { .. } | Purpose::ToLoop { .. } => Ok(None),
     }
 }
@@ -295,7 +288,8 @@ fn initialised(
         | Purpose::ToUpdate { .. }
         | Purpose::ToAssert { .. }
         | Purpose::ToChoose { .. }
-        | Purpose::ToLoop { .. } => Ok(None),
+        | Purpose::ToLoop { .. }
+        | Purpose::ToRepeat { .. } => Ok(None),
     }
 }
 

@@ -8,7 +8,7 @@ ghost use Rattle.c_grammar.specs.Grammar as grammar;
 ghost use Rattle.c_grammar.specs.Machine as machine;
 ghost use Rattle.item_reader.specs.Views.{as_frame, as_frames, as_prefix};
 
-use crate::states::Frame;
+use crate::unfinished::Frame;
 use crate::words::Prefix;
 use c_tree::{Expr, Op};
 use fam_outer::NoMemory;

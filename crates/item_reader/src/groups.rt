@@ -8,7 +8,8 @@ ghost use Rattle.c_grammar.specs.Machine as machine;
 ghost use Rattle.item_reader.specs.Views.{Moves, as_link, as_links, as_stack, as_state};
 
 use crate::lists::{choice, only};
-use crate::states::{Link, ReadingState, Stack};
+use crate::states::ReadingState;
+use crate::unfinished::{Link, Stack};
 use c_tree::Stmt;
 use fam_outer::NoMemory;
 use std::alloc::Global;

@@ -1,11 +1,13 @@
 //! A reader of items: a list of items is read into a program, item by item, with all that is open in a value of its own.
 #![tactic(auto)]
 
+mod changes;
 mod declarations;
 mod definitions;
 mod endings;
 mod expressions;
 mod files;
+mod for_headers;
 mod frames;
 mod groups;
 mod heads;
@@ -21,6 +23,7 @@ mod stacks;
 mod statements;
 mod states;
 mod steps;
+mod unfinished;
 pub mod unread;
 mod words;
 

@@ -8,7 +8,8 @@ ghost use Rattle.c_grammar.specs.Deep as limits;
 ghost use Rattle.item_reader.specs.Limits.{capped};
 ghost use Rattle.item_reader.specs.Views.{as_parts, as_sections, as_stack, as_state, as_tailing};
 
-use crate::states::{ReadingState, Sections, Stack, Tailing};
+use crate::states::{ReadingState, Sections, Tailing};
+use crate::unfinished::Stack;
 use c_grammar::Sign;
 use fam_outer::{MOST_NESTED, MOST_OPERATORS};
 
@@ -92,7 +93,7 @@ fn opens_more(sign: Sign) -> bool
 {
     matches!(
         sign,
-        Sign::If | Sign::While | Sign::LeftBrace | Sign::GroupIf(_) | Sign::GroupElif(_)
+        Sign::If | Sign::While | Sign::For | Sign::LeftBrace | Sign::GroupIf(_) | Sign::GroupElif(_)
     )
 }
 
@@ -103,11 +104,24 @@ fn is_operator(sign: Sign) -> bool
     matches!(sign, Sign::Oper(_) | Sign::Bang | Sign::Open)
 }
 
-/// Whether what comes belongs to an expression.
+/// Whether what comes belongs to an expression. Behind the start of a `for` it may be the first of one.
 fn in_expression(state: &ReadingState) -> bool
     ensures { result ≡ limits.in_expression (as_state state.now) }
 {
-    matches!(state, ReadingState::Wants { .. } | ReadingState::Has { .. })
+    matches!(
+        state,
+        ReadingState::Wants { .. } | ReadingState::Has { .. } | ReadingState::TestComes { .. }
+    )
+}
+
+/// How many operators and opening parentheses the expression has so far. The test of a `for` is one of its own.
+fn so_far(state: &ReadingState, count: u32) -> u32
+    ensures { result ≡ limits.so_far (as_state state.now) count }
+{
+    match state {
+        ReadingState::TestComes { .. } => 0,
+        _ => count,
+    }
 }
 
 /// How many operators and opening parentheses the expression has with this sign.
@@ -118,9 +132,9 @@ pub(crate) fn counted(state: &ReadingState, sign: Sign, count: u32) -> u32
     if !in_expression(state) {
         0
     } else if is_operator(sign) {
-        count + 1
+        so_far(state, count) + 1
     } else {
-        count
+        so_far(state, count)
     }
 }
 

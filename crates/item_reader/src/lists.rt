@@ -18,25 +18,27 @@ pub(crate) fn only(alloc: Global, statement: Stmt) -> Result<Vec<Stmt>, NoMemory
     Ok(list)
 }
 
-/// A list with one more statement.
-pub(crate) fn with_statement(mut list: Vec<Stmt>, statement: Stmt) -> Result<Vec<Stmt>, NoMemory>
-    ensures { IfOk result (λ made. code made.items ≡ followed (code list.items) (front statement Done)) }
+/// A list with more statements.
+pub(crate) fn with_statements(
+    mut list: Vec<Stmt>,
+    mut more: Vec<Stmt>,
+) -> Result<Vec<Stmt>, NoMemory>
+    ensures { IfOk result (λ made. code made.items ≡ followed (code list.items) (code more.items)) }
 {
-    list.push(statement)?;
+    list.append(&mut more)?;
     Ok(list)
 }
 
 /// An `if` without `else`.
-pub(crate) fn if_then(alloc: Global, place: Place, test: Expr, yes: Stmt) -> Result<Stmt, NoMemory>
-    ensures { IfOk result (λ made. front made Done ≡ If place (term test) (front yes Done) Done Done) }
+pub(crate) fn if_then(
+    alloc: Global,
+    place: Place,
+    test: Expr,
+    yes: Vec<Stmt>,
+) -> Result<Vec<Stmt>, NoMemory>
+    ensures { IfOk result (λ made. code made.items ≡ If place (term test) (code yes.items) Done Done) }
 {
-    let yes = only(alloc, yes)?;
-    Ok(Stmt::If {
-        place,
-        test,
-        yes,
-        no: Vec::new(alloc),
-    })
+    if_else(alloc, place, test, yes, Vec::new(alloc))
 }
 
 /// An `if` with its `else`.
@@ -45,26 +47,38 @@ pub(crate) fn if_else(
     place: Place,
     test: Expr,
     yes: Vec<Stmt>,
-    no: Stmt,
-) -> Result<Stmt, NoMemory>
-    ensures { IfOk result (λ made. front made Done
-        ≡ If place (term test) (code yes.items) (front no Done) Done) }
+    no: Vec<Stmt>,
+) -> Result<Vec<Stmt>, NoMemory>
+    ensures { IfOk result (λ made. code made.items
+        ≡ If place (term test) (code yes.items) (code no.items) Done) }
 {
-    let no = only(alloc, no)?;
-    Ok(Stmt::If {
+    let statement = Stmt::If {
         place,
         test,
         yes,
         no,
-    })
+    };
+    only(alloc, statement)
 }
 
-/// A loop.
-pub(crate) fn loop_of(alloc: Global, place: Place, test: Expr, body: Stmt) -> Result<Stmt, NoMemory>
-    ensures { IfOk result (λ made. front made Done ≡ While place (term test) (front body Done) Done) }
+/// A loop, behind what stands before its first test.
+pub(crate) fn loop_behind(
+    mut start: Vec<Stmt>,
+    place: Place,
+    test: Expr,
+    step: Vec<Stmt>,
+    body: Vec<Stmt>,
+) -> Result<Vec<Stmt>, NoMemory>
+    ensures { IfOk result (λ made. code made.items ≡ followed (code start.items)
+        (While place (term test) (code step.items) (code body.items) Done)) }
 {
-    let body = only(alloc, body)?;
-    Ok(Stmt::While { place, test, body })
+    start.push(Stmt::While {
+        place,
+        test,
+        step,
+        body,
+    })?;
+    Ok(start)
 }
 
 /// A block.

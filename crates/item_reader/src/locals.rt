@@ -8,11 +8,12 @@ ghost use Rattle.c_grammar.specs.Grammar as grammar;
 ghost use Rattle.c_grammar.specs.Machine as machine;
 ghost use Rattle.item_reader.specs.Views.{as_pending, as_qualifier, as_stack, as_state, as_words, Moves};
 
+use crate::changes::finished_change;
 use crate::expressions::expected;
 use crate::heads::is_second_word;
-use crate::marks::at_semicolon;
 use crate::stacks::folded;
-use crate::states::{Pending, Purpose, ReadingState, Stack};
+use crate::states::ReadingState;
+use crate::unfinished::{Pending, Purpose, Stack};
 use crate::words::{Qualifier, TypeWords};
 use c_grammar::Sign;
 use c_tree::Stmt;
@@ -224,9 +225,7 @@ pub(crate) fn finishing(
     ensures { Moves result (machine.finishing (as_pending pending) sign) }
 {
     match pending {
-        Pending::OfStatement { outer, statement } => {
-            Ok(at_semicolon(ReadingState::Ended { outer, statement }, sign))
-        }
+        Pending::OfStatement { site, statement } => finished_change(alloc, site, statement, sign),
         Pending::OfLocal {
             kind,
             outer,

@@ -5,7 +5,8 @@ ghost use Rattle.std.specs.Prelude.{◌≡◌, option_map};
 ghost use Rattle.c_grammar.specs.Machine as machine;
 ghost use Rattle.item_reader.specs.Views.{as_aim, as_state};
 
-use crate::states::{Aim, ReadingState, Stack};
+use crate::states::{Aim, ReadingState};
+use crate::unfinished::Stack;
 use c_grammar::Sign;
 use std::alloc::Global;
 

@@ -25,6 +25,8 @@ use std::alloc::Global;
 /// last declarator outside, else with 0. With groups each group of statements is a `Cond`, and each declarator outside is
 /// kept with the guards of the groups around it. A declarator in `main` is a statement: it assigns its initialiser, and
 /// without one any value, as that of an input is.
+/// A `for` is what it does before its first test, if anything, and then a loop with its test and its step; the loop has the
+/// place of the test, and a test that is left out is 1, at the semicolon.
 ///
 /// The conditions are that the items name these names alone, that the numbers are from 0 to 2147483647, and that the
 /// places rise. With at most 48 names the program is well formed.
@@ -33,8 +35,8 @@ use std::alloc::Global;
 ///
 /// - `Wrong(n)`: no file goes on with item `n`, whichever names it has, though some file goes on with the items before
 ///   it. Where `n` is the number of the items, some file goes on with all of them, but none ends behind them.
-/// - `Deep(n)`: some file goes on with item `n`, but none within the limits: it opens an `if`, a `while`, a block, a
-///   group or the next part of a group inside 64 of these, or it is the 65th operator or opening parenthesis of an
+/// - `Deep(n)`: some file goes on with item `n`, but none within the limits: it opens an `if`, a `while`, a `for`, a
+///   block, a group or the next part of a group inside 64 of these, or it is the 65th operator or opening parenthesis of an
 ///   expression. The brace of `main` is no block, and each `#elif` counts as one more around what follows in its section.
 /// - `NoMemory`: want of memory, and nothing else.
 pub fn read_items(alloc: Global, names: Names, items: &[Item]) -> Result<Program, UnreadRefusal>

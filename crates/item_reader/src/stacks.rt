@@ -7,23 +7,25 @@ ghost use Rattle.c_tree.specs.View.{code, front, term};
 ghost use Rattle.c_grammar.specs.Machine as machine;
 ghost use Rattle.item_reader.specs.Views.{Moves, as_stack, as_state};
 
-use crate::lists::{if_else, if_then, loop_of, only, with_statement};
-use crate::states::{ReadingState, Stack};
+use crate::lists::{if_else, if_then, loop_behind, only, with_statements};
+use crate::states::ReadingState;
+use crate::unfinished::Stack;
 use c_tree::{Expr, Stmt};
 use fam_outer::{NoMemory, Place};
 use std::alloc::Global;
 
-/// The statement is put where it belongs, and no `else` comes.
-pub(crate) fn folded(alloc: Global, stack: Stack, statement: Stmt) -> Result<Stack, NoMemory>
-    ensures { IfOk result (λ made. as_stack made ≡ machine.folded (as_stack stack) (front statement Done)) }
+/// The statements are put where they belong, and no `else` comes.
+fn folded_list(alloc: Global, stack: Stack, statements: Vec<Stmt>) -> Result<Stack, NoMemory>
+    ensures { IfOk result (λ made. as_stack made
+        ≡ machine.folded (as_stack stack) (code statements.items)) }
 {
     match stack {
         Stack::Top { declared, made } => {
-            let made = with_statement(made, statement)?;
+            let made = with_statements(made, statements)?;
             Ok(Stack::Top { declared, made })
         }
         Stack::Braces { place, made, outer } => {
-            let made = with_statement(made, statement)?;
+            let made = with_statements(made, statements)?;
             Ok(Stack::Braces { place, made, outer })
         }
         Stack::Yes {
@@ -32,7 +34,7 @@ pub(crate) fn folded(alloc: Global, stack: Stack, statement: Stmt) -> Result<Sta
             made,
             outer,
         } => {
-            let made = with_statement(made, statement)?;
+            let made = with_statements(made, statements)?;
             Ok(Stack::Yes {
                 links,
                 number,
@@ -47,7 +49,7 @@ pub(crate) fn folded(alloc: Global, stack: Stack, statement: Stmt) -> Result<Sta
             made,
             outer,
         } => {
-            let made = with_statement(made, statement)?;
+            let made = with_statements(made, statements)?;
             Ok(Stack::No {
                 links,
                 number,
@@ -57,8 +59,8 @@ pub(crate) fn folded(alloc: Global, stack: Stack, statement: Stmt) -> Result<Sta
             })
         }
         Stack::ThenOf { place, test, outer } => {
-            let statement = if_then(alloc, place, test, statement)?;
-            folded(alloc, Box::into_inner(outer), statement)
+            let statements = if_then(alloc, place, test, statements)?;
+            folded_list(alloc, Box::into_inner(outer), statements)
         }
         Stack::ElseOf {
             place,
@@ -66,14 +68,28 @@ pub(crate) fn folded(alloc: Global, stack: Stack, statement: Stmt) -> Result<Sta
             first,
             outer,
         } => {
-            let statement = if_else(alloc, place, test, first, statement)?;
-            folded(alloc, Box::into_inner(outer), statement)
+            let statements = if_else(alloc, place, test, first, statements)?;
+            folded_list(alloc, Box::into_inner(outer), statements)
         }
-        Stack::LoopOf { place, test, outer } => {
-            let statement = loop_of(alloc, place, test, statement)?;
-            folded(alloc, Box::into_inner(outer), statement)
+        Stack::LoopOf {
+            start,
+            place,
+            test,
+            advance,
+            outer,
+        } => {
+            let statements = loop_behind(start, place, test, advance, statements)?;
+            folded_list(alloc, Box::into_inner(outer), statements)
         }
     }
+}
+
+/// The statement is put where it belongs, and no `else` comes.
+pub(crate) fn folded(alloc: Global, stack: Stack, statement: Stmt) -> Result<Stack, NoMemory>
+    ensures { IfOk result (λ made. as_stack made ≡ machine.folded (as_stack stack) (front statement Done)) }
+{
+    let statements = only(alloc, statement)?;
+    folded_list(alloc, stack, statements)
 }
 
 /// The side of an `if` behind `else` comes.
@@ -91,6 +107,41 @@ fn other_side(place: Place, test: Expr, first: Vec<Stmt>, outer: Box<Stack>) -> 
     }
 }
 
+/// The nearest `if` that an `else` may belong to goes on with its other side, behind these statements.
+fn else_of_list(
+    alloc: Global,
+    stack: Stack,
+    statements: Vec<Stmt>,
+) -> Result<Option<ReadingState>, NoMemory>
+    ensures { Moves result (machine.else_of (as_stack stack) (code statements.items)) }
+{
+    match stack {
+        Stack::Top { .. } | Stack::Braces { .. } | Stack::Yes { .. } | Stack::No { .. } => Ok(None),
+        Stack::ThenOf { place, test, outer } => {
+            Ok(Some(other_side(place, test, statements, outer)))
+        }
+        Stack::ElseOf {
+            place,
+            test,
+            first,
+            outer,
+        } => {
+            let statements = if_else(alloc, place, test, first, statements)?;
+            else_of_list(alloc, Box::into_inner(outer), statements)
+        }
+        Stack::LoopOf {
+            start,
+            place,
+            test,
+            advance,
+            outer,
+        } => {
+            let statements = loop_behind(start, place, test, advance, statements)?;
+            else_of_list(alloc, Box::into_inner(outer), statements)
+        }
+    }
+}
+
 /// The nearest `if` that an `else` may belong to goes on with its other side.
 pub(crate) fn else_of(
     alloc: Global,
@@ -99,24 +150,6 @@ pub(crate) fn else_of(
 ) -> Result<Option<ReadingState>, NoMemory>
     ensures { Moves result (machine.else_of (as_stack stack) (front statement Done)) }
 {
-    match stack {
-        Stack::Top { .. } | Stack::Braces { .. } | Stack::Yes { .. } | Stack::No { .. } => Ok(None),
-        Stack::ThenOf { place, test, outer } => {
-            let first = only(alloc, statement)?;
-            Ok(Some(other_side(place, test, first, outer)))
-        }
-        Stack::ElseOf {
-            place,
-            test,
-            first,
-            outer,
-        } => {
-            let statement = if_else(alloc, place, test, first, statement)?;
-            else_of(alloc, Box::into_inner(outer), statement)
-        }
-        Stack::LoopOf { place, test, outer } => {
-            let statement = loop_of(alloc, place, test, statement)?;
-            else_of(alloc, Box::into_inner(outer), statement)
-        }
-    }
+    let statements = only(alloc, statement)?;
+    else_of_list(alloc, stack, statements)
 }

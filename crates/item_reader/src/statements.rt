@@ -6,17 +6,19 @@ ghost use Rattle.c_tree.specs.Tree.{Done, Skip};
 ghost use Rattle.c_tree.specs.View.{front};
 ghost use Rattle.c_grammar.specs.Grammar as grammar;
 ghost use Rattle.c_grammar.specs.Machine as machine;
-ghost use Rattle.item_reader.specs.Views.{Moves, as_count, as_purpose, as_stack, as_state, as_update};
+ghost use Rattle.item_reader.specs.Views.{Moves, as_count, as_purpose, as_site, as_stack, as_state, as_update};
 
-use crate::expressions::{expected, updated};
+use crate::changes::changed_by_one;
+use crate::expressions::expected;
 use crate::groups::{group_end, last_part, next_part, opened};
 use crate::lists::block;
 use crate::locals::{const_in, type_in};
 use crate::stacks::{else_of, folded};
-use crate::states::{File, Pending, Purpose, ReadingState, Stack};
+use crate::states::{File, ReadingState};
+use crate::unfinished::{Pending, Purpose, Site, Stack};
 use crate::words::{Count, TypeWords, Update};
 use c_grammar::Sign;
-use c_tree::{Expr, Stmt};
+use c_tree::Stmt;
 use fam_outer::{NoMemory, Place};
 use std::alloc::Global;
 
@@ -71,10 +73,11 @@ fn block_in(alloc: Global, outer: Stack, place: Place) -> Result<Option<ReadingS
 /// A call whose value is dropped.
 fn called(outer: Stack, place: Place) -> Option<ReadingState>
     ensures { option_map as_state result
-        ≡ Some (machine.CallOpens (machine.OfStatement (as_stack outer) (Skip place Done))) }
+        ≡ Some (machine.CallOpens
+        (machine.OfStatement (machine.AsStatement (as_stack outer)) (Skip place Done))) }
 {
     let pending = Pending::OfStatement {
-        outer,
+        site: Site::AsStatement { outer },
         statement: Stmt::Skip { place },
     };
     Some(ReadingState::CallOpens { pending })
@@ -83,12 +86,12 @@ fn called(outer: Stack, place: Place) -> Option<ReadingState>
 /// `++` or `--`: the name of a variable comes.
 fn counts(place: Place, count: Count, outer: Stack) -> Option<ReadingState>
     ensures { option_map as_state result
-        ≡ Some (machine.Counting place (as_count count) (as_stack outer)) }
+        ≡ Some (machine.Counting place (as_count count) (machine.AsStatement (as_stack outer))) }
 {
     Some(ReadingState::Counting {
         place,
         count,
-        outer,
+        site: Site::AsStatement { outer },
     })
 }
 
@@ -112,7 +115,7 @@ pub(crate) fn begin(
         Sign::Name(target) => Ok(Some(ReadingState::Named {
             place,
             target,
-            outer,
+            site: Site::AsStatement { outer },
         })),
         Sign::Const => Ok(const_in(outer)),
         Sign::Int => Ok(type_in(outer, TypeWords::OneInt)),
@@ -131,6 +134,7 @@ pub(crate) fn begin(
         Sign::Assert => Ok(opens(Purpose::ToAssert { place, outer })),
         Sign::If => Ok(opens(Purpose::ToChoose { place, outer })),
         Sign::While => Ok(opens(Purpose::ToLoop { place, outer })),
+        Sign::For => Ok(Some(ReadingState::ForOpens { outer })),
         Sign::Return => Ok(returned(outer, place)),
         Sign::GroupIf(number) => opened(alloc, number, outer),
         Sign::GroupElif(number) => next_part(alloc, number, outer),
@@ -171,83 +175,73 @@ pub(crate) fn on(
     }
 }
 
-/// The step by one of `++` or `--`.
-fn by_one(count: Count) -> Update
-    ensures { as_update result ≡ grammar.by_one (as_count count) }
-{
-    match count {
-        Count::Raise => Update::Sum,
-        Count::Lower => Update::Difference,
-    }
-}
-
-/// `++` or `--` behind or before a name.
-fn changed_by_one(
+/// `++` or `--` behind or before a name, whose end comes.
+fn changed(
     alloc: Global,
     place: Place,
     target: u32,
     count: Count,
-    outer: Stack,
+    site: Site,
 ) -> Result<Option<ReadingState>, NoMemory>
-    ensures { Moves result (Some (machine.Finishing (machine.OfStatement (as_stack outer)
+    ensures { Moves result (Some (machine.Finishing (machine.OfStatement (as_site site)
         (grammar.changed_by_one place target (as_count count))))) }
 {
-    let statement = updated(alloc, place, target, by_one(count), Expr::Number(1))?;
-    let pending = Pending::OfStatement { outer, statement };
+    let statement = changed_by_one(alloc, place, target, count)?;
+    let pending = Pending::OfStatement { site, statement };
     Ok(Some(ReadingState::Finishing { pending }))
 }
 
-/// What a sign leads to behind `++` or `--` at the front of a statement.
+/// What a sign leads to behind `++` or `--` at the front of a change.
 pub(crate) fn counting(
     alloc: Global,
     place: Place,
     count: Count,
-    outer: Stack,
+    site: Site,
     sign: Sign,
 ) -> Result<Option<ReadingState>, NoMemory>
-    ensures { Moves result (machine.counting place (as_count count) (as_stack outer) sign) }
+    ensures { Moves result (machine.counting place (as_count count) (as_site site) sign) }
 {
     match sign {
-        Sign::Name(target) => changed_by_one(alloc, place, target, count, outer),
+        Sign::Name(target) => changed(alloc, place, target, count, site),
         _ => Ok(None),
     }
 }
 
 /// The expression of a compound assignment comes.
-fn updating(alloc: Global, place: Place, target: u32, update: Update, outer: Stack) -> ReadingState
+fn updating(alloc: Global, place: Place, target: u32, update: Update, site: Site) -> ReadingState
     ensures { as_state result
-        ≡ machine.Wants [] (machine.ToUpdate place target (as_update update) (as_stack outer)) }
+        ≡ machine.Wants [] (machine.ToUpdate place target (as_update update) (as_site site)) }
 {
     let purpose = Purpose::ToUpdate {
         place,
         target,
         update,
-        outer,
+        site,
     };
     expected(alloc, purpose)
 }
 
-/// What a sign leads to behind the name at the front of a statement.
+/// What a sign leads to behind the name at the front of a change.
 pub(crate) fn named(
     alloc: Global,
     place: Place,
     target: u32,
-    outer: Stack,
+    site: Site,
     sign: Sign,
 ) -> Result<Option<ReadingState>, NoMemory>
-    ensures { Moves result (machine.named place target (as_stack outer) sign) }
+    ensures { Moves result (machine.named place target (as_site site) sign) }
 {
     let update = match sign {
         Sign::Equals => {
             let purpose = Purpose::ToAssign {
                 place,
                 target,
-                outer,
+                site,
             };
             return Ok(Some(expected(alloc, purpose)));
         }
-        Sign::PlusPlus => return changed_by_one(alloc, place, target, Count::Raise, outer),
-        Sign::MinusMinus => return changed_by_one(alloc, place, target, Count::Lower, outer),
+        Sign::PlusPlus => return changed(alloc, place, target, Count::Raise, site),
+        Sign::MinusMinus => return changed(alloc, place, target, Count::Lower, site),
         Sign::PlusEquals => Update::Sum,
         Sign::MinusEquals => Update::Difference,
         Sign::StarEquals => Update::Product,
@@ -255,5 +249,5 @@ pub(crate) fn named(
         Sign::PercentEquals => Update::Remainder,
         _ => return Ok(None),
     };
-    Ok(Some(updating(alloc, place, target, update, outer)))
+    Ok(Some(updating(alloc, place, target, update, site)))
 }

@@ -1,116 +1,10 @@
-//! What is open between two items.
+//! What was read so far, between two items.
 #![tactic(auto)]
 
-use crate::words::{Count, Leading, Prefix, Qualifier, TypeWords, Update};
-use c_tree::{Declared, Expr, Guard, Op, Stmt};
+use crate::unfinished::{Frame, Pending, Purpose, Site, Stack};
+use crate::words::{Count, Leading, Qualifier, TypeWords};
+use c_tree::{Declared, Expr, Guard, Stmt};
 use fam_outer::Place;
-
-/// What waits for an operand: a parenthesis, a prefix, or an operator behind its left operand.
-#[derive(Drop)]
-pub(crate) enum Frame {
-    Paren,
-    Pre(Prefix),
-    Left(Op, Expr),
-}
-
-/// An earlier part of a section of groups: its condition and its statements.
-#[derive(Drop)]
-pub(crate) struct Link {
-    pub number: u32,
-    pub made: Vec<Stmt>,
-}
-
-/// The statements and groups that are open, the innermost first. A list has the statements that it has so far. `Top` is
-/// the list of `main`, behind the declarators. `Yes` is a part with a condition, and `No` the part behind `#else`.
-#[derive(Drop)]
-pub(crate) enum Stack {
-    Top {
-        declared: Vec<Declared>,
-        made: Vec<Stmt>,
-    },
-    Braces {
-        place: Place,
-        made: Vec<Stmt>,
-        outer: Box<Stack>,
-    },
-    Yes {
-        links: Vec<Link>,
-        number: u32,
-        made: Vec<Stmt>,
-        outer: Box<Stack>,
-    },
-    No {
-        links: Vec<Link>,
-        number: u32,
-        first: Vec<Stmt>,
-        made: Vec<Stmt>,
-        outer: Box<Stack>,
-    },
-    ThenOf {
-        place: Place,
-        test: Expr,
-        outer: Box<Stack>,
-    },
-    ElseOf {
-        place: Place,
-        test: Expr,
-        first: Vec<Stmt>,
-        outer: Box<Stack>,
-    },
-    LoopOf {
-        place: Place,
-        test: Expr,
-        outer: Box<Stack>,
-    },
-}
-
-/// What an expression is for. The initialiser of a variable that `main` declares has what its declaration declares.
-#[derive(Drop)]
-pub(crate) enum Purpose {
-    ToAssign {
-        place: Place,
-        target: u32,
-        outer: Stack,
-    },
-    ToInitialise {
-        kind: Qualifier,
-        place: Place,
-        target: u32,
-        outer: Stack,
-    },
-    ToUpdate {
-        place: Place,
-        target: u32,
-        update: Update,
-        outer: Stack,
-    },
-    ToAssert {
-        place: Place,
-        outer: Stack,
-    },
-    ToChoose {
-        place: Place,
-        outer: Stack,
-    },
-    ToLoop {
-        place: Place,
-        outer: Stack,
-    },
-}
-
-/// What is read but for its end: a statement, or a declarator in `main`.
-#[derive(Drop)]
-pub(crate) enum Pending {
-    OfStatement {
-        outer: Stack,
-        statement: Stmt,
-    },
-    OfLocal {
-        kind: Qualifier,
-        outer: Stack,
-        statement: Stmt,
-    },
-}
 
 /// The groups around declarations: a part with a condition, with the guards before it, and the last part with its guards.
 #[derive(Drop)]
@@ -321,21 +215,38 @@ pub(crate) enum ReadingState {
         purpose: Purpose,
         operand: Expr,
     },
-    /// Behind `++` or `--` at the front of a statement.
+    /// Behind `++` or `--` at the front of a change.
     Counting {
         place: Place,
         count: Count,
-        outer: Stack,
+        site: Site,
     },
-    /// Behind the name at the front of a statement.
+    /// Behind the name at the front of a change.
     Named {
         place: Place,
         target: u32,
-        outer: Stack,
+        site: Site,
     },
     /// A parenthesis before an expression comes.
     Opens {
         purpose: Purpose,
+    },
+    /// Behind `for`, behind its parenthesis, behind its first semicolon, and behind the second one.
+    ForOpens {
+        outer: Stack,
+    },
+    StartComes {
+        outer: Stack,
+    },
+    TestComes {
+        start: Vec<Stmt>,
+        outer: Stack,
+    },
+    StepComes {
+        start: Vec<Stmt>,
+        place: Place,
+        test: Expr,
+        outer: Stack,
     },
     /// Behind the parenthesis at the front of a statement, behind `void` in it, and behind both parentheses: a call comes,
     /// whose value is dropped.
@@ -358,7 +269,7 @@ pub(crate) enum ReadingState {
     CallCloses {
         pending: Pending,
     },
-    /// The semicolon of a statement comes, or the end of a declarator.
+    /// The end of a change comes, the semicolon of another statement, or the end of a declarator.
     Finishing {
         pending: Pending,
     },

@@ -14,6 +14,7 @@ use crate::definitions::{
 };
 use crate::endings::{closing, over, returning};
 use crate::expressions::{expected, have, want};
+use crate::for_headers::{start_comes, step_comes, test_comes};
 use crate::heads::{
     after_enum, after_type, behind_extern, behind_static, behind_void, declaring, first_word,
 };
@@ -22,7 +23,8 @@ use crate::marks::{at_close, at_function, at_open, at_semicolon, at_void};
 use crate::parameters::{after_parameters, in_parameters};
 use crate::sections::outside;
 use crate::statements::{begin, counting, named, on};
-use crate::states::{Pending, ReadingState, Stack};
+use crate::states::ReadingState;
+use crate::unfinished::{Pending, Site, Stack};
 use crate::words::Leading;
 use c_grammar::Sign;
 use c_tree::Stmt;
@@ -179,13 +181,13 @@ fn step_statement(
         ReadingState::Counting {
             place: first,
             count,
-            outer,
-        } => counting(alloc, first, count, outer, sign),
+            site,
+        } => counting(alloc, first, count, site, sign),
         ReadingState::Named {
             place,
             target,
-            outer,
-        } => named(alloc, place, target, outer, sign),
+            site,
+        } => named(alloc, place, target, site, sign),
         ReadingState::Finishing { pending } => finishing(alloc, pending, sign),
         other => step_local(alloc, other, place, sign),
     }
@@ -238,6 +240,30 @@ fn step_operand(
             let next = expected(alloc, purpose);
             Ok(at_open(next, sign))
         }
+        other => step_header(alloc, other, place, sign),
+    }
+}
+
+/// The step of a state from the parentheses of a `for` on.
+fn step_header(
+    alloc: Global,
+    state: ReadingState,
+    place: Place,
+    sign: Sign,
+) -> Result<Option<ReadingState>, NoMemory>
+    requires { 6 ≤ stage (as_state state) }
+    ensures { Moves result (machine.step (as_state state) place sign) }
+{
+    match state {
+        ReadingState::ForOpens { outer } => Ok(at_open(ReadingState::StartComes { outer }, sign)),
+        ReadingState::StartComes { outer } => Ok(start_comes(alloc, outer, place, sign)),
+        ReadingState::TestComes { start, outer } => test_comes(alloc, start, outer, place, sign),
+        ReadingState::StepComes {
+            start,
+            place: first,
+            test,
+            outer,
+        } => step_comes(alloc, start, first, test, outer, place, sign),
         other => step_call(alloc, other, place, sign),
     }
 }
@@ -249,7 +275,7 @@ fn step_call(
     place: Place,
     sign: Sign,
 ) -> Result<Option<ReadingState>, NoMemory>
-    requires { 6 ≤ stage (as_state state) }
+    requires { 7 ≤ stage (as_state state) }
     ensures { Moves result (machine.step (as_state state) place sign) }
 {
     match state {
@@ -275,10 +301,10 @@ fn step_call(
 fn call_comes(place: Place, outer: Stack, sign: Sign) -> Option<ReadingState>
     ensures { option_map as_state result
         ≡ machine.at_function (machine.CallOpens
-        (machine.OfStatement (as_stack outer) (tree.Skip place tree.Done))) sign }
+        (machine.OfStatement (machine.AsStatement (as_stack outer)) (tree.Skip place tree.Done))) sign }
 {
     let pending = Pending::OfStatement {
-        outer,
+        site: Site::AsStatement { outer },
         statement: Stmt::Skip { place },
     };
     at_function(ReadingState::CallOpens { pending }, sign)
@@ -291,7 +317,7 @@ fn step_edge(
     place: Place,
     sign: Sign,
 ) -> Result<Option<ReadingState>, NoMemory>
-    requires { 7 ≤ stage (as_state state) }
+    requires { 8 ≤ stage (as_state state) }
     ensures { Moves result (machine.step (as_state state) place sign) }
 {
     match state {

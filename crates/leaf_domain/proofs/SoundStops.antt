@@ -384,7 +384,7 @@ module _ (M : LeafMeaning) (laws : LeafLaws M) (mode : Mode) (forms : FormsAreFo
   code_may (tree.Input place x rest) v s inputs taken p kind h o w g = absurd (input_moves place p kind (slice_get inputs taken) _ g)
   code_may (tree.Assert place e rest) v s inputs taken p kind h o w g = assert_may place p e rest kind v s taken h o.0 w g
   code_may (tree.If place e yes_side no_side rest) v s inputs taken p kind h o w g = test_may e kind v s h o.0 w (value_stops place p kind (value_of e s mode) _ (λ n. moves _ p kind) g)
-  code_may (tree.While place e body rest) v s inputs taken p kind h o w g = test_may e kind v s h o.0 w (value_stops place p kind (value_of e s mode) _ (λ n. moves _ p kind) g)
+  code_may (tree.While place e step body rest) v s inputs taken p kind h o w g = test_may e kind v s h o.0 w (value_stops place p kind (value_of e s mode) _ (λ n. moves _ p kind) g)
   code_may (tree.Block place body rest) v s inputs taken p kind h o w g = cc
   code_may (tree.Skip place rest) v s inputs taken p kind h o w g = cc
   code_may (tree.Cond number yes_side no_side rest) v s inputs taken p kind h o w g = cc

@@ -66,5 +66,5 @@ abbrev pub may_at : LeafMeaning → Mode → Kind → Code → LeafValue → Boo
 may_at M mode kind (Assign place x e rest) v = is_of_value kind && may_term M mode kind e v
 may_at M mode kind (Assert place e rest) v = if is_of_value kind then may_term M mode kind e v else may_fail M mode e v
 may_at M mode kind (If place e p q rest) v = is_of_value kind && may_term M mode kind e v
-may_at M mode kind (While place e body rest) v = is_of_value kind && may_term M mode kind e v
+may_at M mode kind (While place e step body rest) v = is_of_value kind && may_term M mode kind e v
 may_at M mode kind c v = false

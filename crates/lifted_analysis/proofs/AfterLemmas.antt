@@ -15,8 +15,8 @@ use Rattle.decision_tree.specs.View.{numbered}
 use Rattle.decision_tree.proofs.Numbers.{keeps_both}
 use Rattle.leaf_domain.specs.Leaves.{LeafValue, LeafMeaning, LeafLaws, nothing_of, is_nothing_of}
 use Rattle.leaf_domain.specs.Soundness.{TransferAnswers}
-use Rattle.plain_analysis.specs.Statements.{after_of}
-use Rattle.plain_analysis.proofs.Nothing.{after_stays, after_nothing, loop_nothing, nothing_value}
+use Rattle.plain_analysis.specs.Statements.{lap_of}
+use Rattle.plain_analysis.proofs.Nothing.{after_stays, lap_nothing, loop_nothing, nothing_value}
 use Rattle.lifted_analysis.specs.declared.family_context.FamilyContext.{FamilyContext}
 use Rattle.lifted_analysis.specs.declared.operations.Combination.TheVariants.{Join}
 use Rattle.lifted_analysis.specs.States.{IsFamily, IsState, IsLifted, IsJoint, truths_in}
@@ -85,10 +85,12 @@ module _ {L : Type 0} (value : L → LeafValue) (family : FamilyContext) where
       let few : x.variables ≤ 48 = subst (λ n. n ≤ 48) (sym (counted value family forest t v s)) is.few in
       sym (after_stays M laws family.options.now answers x few (e v) (projected (truths_in family.choices.now v) c))
 
-  pub nothing_ends : (M : LeafMeaning) → LeafLaws M → TransferAnswers M family.options.now.mode → IsFamily family → (forest : List (Plain L)) (t : Numbered L) (test : Term) (c : Code) → IsState value family forest t
-      → ((v : List Bool) → is_nothing_of (value (leaf_of (erase t) v)) ≡ true) → (v : List Bool) → value (leaf_of (erase t) v) ≡ final_at M family test c v (value (leaf_of (erase t) v))
-  nothing_ends M laws answers is forest t test c s e v =
+  pub nothing_ends : (M : LeafMeaning) → LeafLaws M → TransferAnswers M family.options.now.mode → IsFamily family → (forest : List (Plain L)) (t : Numbered L) (test : Term) (step body : Code) → IsState value family forest t
+      → ((v : List Bool) → is_nothing_of (value (leaf_of (erase t) v)) ≡ true) → (v : List Bool) → value (leaf_of (erase t) v) ≡ final_at M family test step body v (value (leaf_of (erase t) v))
+  nothing_ends M laws answers is forest t test step body s e v =
       let x = value (leaf_of (erase t) v) in
-      let b = projected (truths_in family.choices.now v) c in
+      let o = family.options.now in
+      let p = projected (truths_in family.choices.now v) step in
+      let q = projected (truths_in family.choices.now v) body in
       let n : x ≡ nothing_of family.variables = nothing_value x family.variables (e v) (counted value family forest t v s) in
-      sym (ap (final_at M family test c v) n ∙ (loop_nothing M laws family.options.now answers family.variables is.few test (after_of M family.options.now b) (after_nothing M laws family.options.now answers family.variables is.few b) ∙ sym n))
+      sym (ap (final_at M family test step body v) n ∙ (loop_nothing M laws o answers family.variables is.few test (lap_of M o p q) (lap_nothing M laws o answers family.variables is.few p q) ∙ sym n))

@@ -15,7 +15,7 @@ use Rattle.leaf_domain.specs.Transfer.{assumed, assigned, forgotten}
 use Rattle.leaf_domain.specs.Stops.{may_at}
 use Rattle.leaf_domain.proofs.Answered.{answers_then}
 use Rattle.plain_analysis.specs.Places.{is_same_place, entry_in}
-use Rattle.plain_analysis.specs.Statements.{Heads, Entry, passed, entries_by}
+use Rattle.plain_analysis.specs.Statements.{Heads, Entry, passed, lap, head_by, entries_by}
 use Rattle.plain_analysis.proofs.JoinLemmas.{join_answer}
 use Rattle.plain_analysis.proofs.Located.{same_place_self}
 use Rattle.lifted_analysis.specs.Entries.{Visit, visits_at, turn_of, turns_in}
@@ -37,7 +37,7 @@ IsCodeOf-parts count (Assign place y e rest) b h = let r = IsCodeOf-parts count 
 IsCodeOf-parts count (Input place y rest) b h = let r = IsCodeOf-parts count rest b h.1 in ((h.0, r.0), r.1)
 IsCodeOf-parts count (Assert place e rest) b h = let r = IsCodeOf-parts count rest b h.1 in ((h.0, r.0), r.1)
 IsCodeOf-parts count (If place e p q rest) b h = let r = IsCodeOf-parts count rest b h.3 in ((h.0, h.1, h.2, r.0), r.1)
-IsCodeOf-parts count (While place e body rest) b h = let r = IsCodeOf-parts count rest b h.2 in ((h.0, h.1, r.0), r.1)
+IsCodeOf-parts count (While place e step body rest) b h = let r = IsCodeOf-parts count rest b h.3 in ((h.0, h.1, h.2, r.0), r.1)
 IsCodeOf-parts count (Block place body rest) b h = let r = IsCodeOf-parts count rest b h.1 in ((h.0, r.0), r.1)
 IsCodeOf-parts count (Skip place rest) b h = IsCodeOf-parts count rest b h
 IsCodeOf-parts count (Cond number p q rest) b h = let r = IsCodeOf-parts count rest b h.2 in ((h.0, h.1, r.0), r.1)
@@ -66,9 +66,11 @@ module _ (M : LeafMeaning) (mode : Mode) (H : Heads) where
       ap (λ l. record { place = place; statement = If place e p q Done; leaf = v } ∷ l)
       (sides_more (entries_by M mode H p (assumed M mode e true v)) (entries_by M mode H q (assumed M mode e false v)) _ _ _
       (entries_by-followed rest b (M.join (passed M mode H p (assumed M mode e true v)) (passed M mode H q (assumed M mode e false v)))))
-  entries_by-followed (While place e body rest) b v =
-      two_more (entries_by M mode H body (assumed M mode e true (H place e (passed M mode H body) v))) _ _ _ _
-      (entries_by-followed rest b (assumed M mode e false (H place e (passed M mode H body) v)))
+  entries_by-followed (While place e step body rest) b v =
+      let x = head_by M mode H place e step body v in
+      ap (λ l. record { place = place; statement = While place e step body Done; leaf = x } ∷ l)
+      (sides_more (entries_by M mode H step (passed M mode H body (assumed M mode e true x))) (entries_by M mode H body (assumed M mode e true x)) _ _ _
+      (entries_by-followed rest b (assumed M mode e false x)))
   entries_by-followed (Block place body rest) b v = two_more (entries_by M mode H body v) _ _ _ _ (entries_by-followed rest b (passed M mode H body v))
   entries_by-followed (Skip place rest) b v = ap (λ l. record { place = place; statement = Skip place Done; leaf = v } ∷ l) (entries_by-followed rest b v)
   entries_by-followed (Cond number p q rest) b v = entries_by-followed rest b v
@@ -81,9 +83,11 @@ module _ (M : LeafMeaning) (mode : Mode) (H : Heads) where
   turns_by-followed (If place e p q rest) b v =
       sides_more (turns_by M mode H p (assumed M mode e true v)) (turns_by M mode H q (assumed M mode e false v)) _ _ _
       (turns_by-followed rest b (M.join (passed M mode H p (assumed M mode e true v)) (passed M mode H q (assumed M mode e false v))))
-  turns_by-followed (While place e body rest) b v =
-      two_more (turns_by M mode H body (assumed M mode e true (H place e (passed M mode H body) v))) _ _ _ _
-      (turns_by-followed rest b (assumed M mode e false (H place e (passed M mode H body) v)))
+  turns_by-followed (While place e step body rest) b v =
+      let x = head_by M mode H place e step body v in
+      ap (λ l. record { place = place; entered = v; head = x; again = lap M mode H step body (assumed M mode e true x) } ∷ l)
+      (sides_more (turns_by M mode H step (passed M mode H body (assumed M mode e true x))) (turns_by M mode H body (assumed M mode e true x)) _ _ _
+      (turns_by-followed rest b (assumed M mode e false x)))
   turns_by-followed (Block place body rest) b v = list_more (turns_by M mode H body v) _ _ _ (turns_by-followed rest b (passed M mode H body v))
   turns_by-followed (Skip place rest) b v = turns_by-followed rest b v
   turns_by-followed (Cond number p q rest) b v = turns_by-followed rest b v
@@ -182,11 +186,14 @@ module _ (M : LeafMeaning) (mode : Mode) (n : ℕ) where
           (lost-append (visits_at M mode ts no_heads q (assumed M mode e false (nothing_of n))) _ (at_nothing q _ (not_so e false) (nothing_visits q))
           (at_nothing rest _ (off (If place e (projected ts p) (projected ts q) Done)) (nothing_visits rest))),
     )
-    nothing_visits (While place e body rest) = (
-      record { leaf = refl; turn = (refl, ap (passed M mode no_heads (projected ts body)) (not_so e true) ∙ off (projected ts body)) },
-      lost-append (visits_at M mode ts no_heads body (assumed M mode e true (nothing_of n))) _ (at_nothing body _ (not_so e true) (nothing_visits body))
-          (at_nothing rest _ (not_so e false) (nothing_visits rest)),
-    )
+    nothing_visits (While place e step body rest) =
+        let inside = assumed M mode e true (nothing_of n) in
+        let behind : passed M mode no_heads (projected ts body) inside ≡ nothing_of n = ap (passed M mode no_heads (projected ts body)) (not_so e true) ∙ off (projected ts body) in (
+          record { leaf = refl; turn = (refl, ap (passed M mode no_heads (projected ts step)) behind ∙ off (projected ts step)) },
+          lost-append (visits_at M mode ts no_heads step (passed M mode no_heads (projected ts body) inside)) _ (at_nothing step _ behind (nothing_visits step))
+              (lost-append (visits_at M mode ts no_heads body inside) _ (at_nothing body _ (not_so e true) (nothing_visits body))
+              (at_nothing rest _ (not_so e false) (nothing_visits rest))),
+        )
     nothing_visits (Block place body rest) = (
       lost place (Block place body Done),
       lost-append (visits_at M mode ts no_heads body (nothing_of n)) _ (nothing_visits body) (at_nothing rest _ (off (projected ts body)) (nothing_visits rest)),
@@ -252,14 +259,22 @@ module _ (M : LeafMeaning) (mode : Mode) (n : ℕ) where
           (drawn-append (entries_by M mode H (projected ts rest) (M.join y z)) (turns_by M mode H (projected ts rest) (M.join y z)) _
           (drawn q (assumed M mode e false x) u.valid (u.same ∙ k) f.2)
           (drawn rest (M.join y z) j.valid (j.same ∙ k) f.3)))
-      drawn (While place e body rest) x h k f =
-          let F = H place e (passed M mode H (projected ts body)) x in
-          let i = fit.answers place e (projected ts body) x h k f.0 f.1 in
-          let t = answers_then x F _ i (A.assumed_answers e true F (suits M laws mode A n H fit e F i.valid (i.same ∙ k) f.0)) in
-          let u = answers_then x F _ i (A.assumed_answers e false F (suits M laws mode A n H fit e F i.valid (i.same ∙ k) f.0)) in
-          kept (same place (While place e (projected ts body) Done) (While place e body Done) F (Some (x, passed M mode H (projected ts body) (assumed M mode e true F))) (λ kind. refl))
-          (drawn-append (entries_by M mode H (projected ts rest) (assumed M mode e false F)) (turns_by M mode H (projected ts rest) (assumed M mode e false F)) _ (drawn body (assumed M mode e true F) t.valid (t.same ∙ k) f.1)
-          (drawn rest (assumed M mode e false F) u.valid (u.same ∙ k) f.2))
+      drawn (While place e step body rest) x h k f =
+          let p = projected ts step in
+          let q = projected ts body in
+          let F = head_by M mode H place e p q x in
+          let y = assumed M mode e true F in
+          let z = assumed M mode e false F in
+          let i = fit.answers place e p q x h k f.0 f.1 f.2 in
+          let t = answers_then x F y i (A.assumed_answers e true F (suits M laws mode A n H fit e F i.valid (i.same ∙ k) f.0)) in
+          let u = answers_then x F z i (A.assumed_answers e false F (suits M laws mode A n H fit e F i.valid (i.same ∙ k) f.0)) in
+          let a = answers_then x y _ t (keeps_on q y t.valid (t.same ∙ k) f.2) in
+          kept (same place (While place e p q Done) (While place e step body Done) F (Some (x, lap M mode H p q y)) (λ kind. refl))
+          (drawn-append (entries_by M mode H q y ++ entries_by M mode H (projected ts rest) z) (turns_by M mode H q y ++ turns_by M mode H (projected ts rest) z) _
+          (drawn step (passed M mode H q y) a.valid (a.same ∙ k) f.1)
+          (drawn-append (entries_by M mode H (projected ts rest) z) (turns_by M mode H (projected ts rest) z) _
+          (drawn body y t.valid (t.same ∙ k) f.2)
+          (drawn rest z u.valid (u.same ∙ k) f.3)))
       drawn (Block place body rest) x h k f =
           let a = keeps_on (projected ts body) x h k f.0 in
           let y = passed M mode H (projected ts body) x in

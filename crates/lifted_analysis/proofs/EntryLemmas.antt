@@ -2,7 +2,7 @@
 use Rattle.std.proofs.Common.{◌≡◌, ℕ, zero, suc, ◌+◌, ◌<◌, ◌≤◌, arith, List, [], ◌∷◌, ◌++◌, map, take, length, get_or, Bool, true, false, not, Some, None, drop, if◌then◌else◌, refl, ap, sym, subst, ◌∙◌, append_assoc, append-nil}
 use Rattle.std.specs.Prelude.{Result, Ok, Err, IfOk, OnOk, slice_index_or}
 use Rattle.std.specs.List.{All, insert}
-use Rattle.std.proofs.lemmas.List.{length-map, length-append, take_at, drop_at}
+use Rattle.std.proofs.lemmas.List.{length-map, length-append, map-append, take_at, drop_at}
 use Rattle.std.proofs.lemmas.List.Elements.{All-append, All-cons, All-nil, All-take, All-drop}
 use Rattle.std.specs.declared.vec.Vec.{Vec}
 use Rattle.std.specs.declared.alloc.Global.{Global}
@@ -25,13 +25,15 @@ use Rattle.leaf_domain.specs.Leaves.{LeafValue, LeafMeaning}
 use Rattle.leaf_domain.specs.Stops.{may_at}
 use Rattle.leaf_domain.specs.Transfer.{assumed, assigned, forgotten}
 use Rattle.c_tree.specs.declared.tree.Mode.{Mode}
-use Rattle.plain_analysis.specs.Statements.{Heads, passed}
+use Rattle.plain_analysis.specs.Statements.{Heads, passed, head_by}
 use Rattle.plain_analysis.proofs.Listed.{front-If, front-While, front-Block}
 use Rattle.tree_unify.specs.Leafwise.{TestsAreOf}
 use Rattle.lifted_analysis.specs.declared.noted.Noted.{Noted}
 use Rattle.lifted_analysis.specs.declared.noted.TurnTree.{TurnTree}
 use Rattle.lifted_analysis.specs.declared.family_context.FamilyContext.{FamilyContext}
-use Rattle.lifted_analysis.specs.Entries.{Visit, visits_at, loop_visit, leaves_in, stops_in, turn_of, turns_in, leaf_there, stop_there, turn_there, IsReducedTree, AreReduced, AreReducedStops, AreSized, HasEntered}
+use Rattle.lifted_analysis.specs.declared.findings.PlaceTree.{PlaceTree}
+use Rattle.lifted_analysis.specs.declared.findings.AlarmTree.{AlarmTree}
+use Rattle.lifted_analysis.specs.Entries.{Visit, visits_at, loop_visit, leaves_in, stops_in, turn_of, turns_in, leaf_there, stop_there, turn_there, IsReducedTree, IsSizedTurn, AreReduced, AreReducedStops, AreSized, HasEntered}
 use Rattle.lifted_analysis.specs.Rules.{heads_where}
 use Rattle.lifted_analysis.specs.States.{IsState, IsSized}
 use Rattle.lifted_analysis.specs.Steps.{kept_by}
@@ -49,6 +51,13 @@ inserted xs ys x n e = ap (λ l. l ++ x ∷ drop n (xs ++ ys)) (take_at xs ys n 
 pub three : {X : Type 0} (a b c d : List X) (x y z : X) → b ≡ a ++ x ∷ [] → c ≡ b ++ y ∷ [] → d ≡ c ++ z ∷ [] → d ≡ a ++ (x ∷ (y ∷ (z ∷ [])))
 three a b c d x y z e f g =
     g ∙ (ap (λ l. l ++ z ∷ []) f ∙ (append_assoc b (y ∷ []) (z ∷ []) ∙ (ap (λ l. l ++ y ∷ (z ∷ [])) e ∙ append_assoc a (x ∷ []) (y ∷ (z ∷ [])))))
+
+-- what was made apart, behind what there was
+behind : {X Y : Type 0} (f : X → Y) (a n b z : List X) (ys : List Y) → n ≡ [] → map f b ≡ map f n ++ ys → z ≡ a ++ b → map f z ≡ map f a ++ ys
+behind f a n b z ys none h e = ap (map f) e ∙ (map-append f a b ∙ ap (λ l. map f a ++ l) (h ∙ ap (λ l. map f l ++ ys) none))
+
+both_all : {X : Type 0} (P : X → Type 0) (a n b z : List X) → n ≡ [] → (All P n → All P b) → z ≡ a ++ b → All P a → All P z
+both_all P a n b z none h e r = subst (All P) (sym e) (All-append P a b r (h (subst (All P) (sym none) (All-nil P))))
 
 pub leaves_in-append : (xs ys : List Visit) → leaves_in (xs ++ ys) ≡ leaves_in xs ++ leaves_in ys
 leaves_in-append [] ys = refl
@@ -129,7 +138,19 @@ module _ {L : Type 0} (value : L → LeafValue) (M : LeafMeaning) (family : Fami
         sized = λ r. subst (AreSized value family) (sym turns) r;
       }
 
-  -- a loop, and the statements in its body, before which it was added
+  -- what was noted apart, from nothing on, behind what was noted so far
+  pub entered_behind : (a n b z : Noted L) (ys : List Bool → List Visit) → n.places.items ≡ [] → n.alarms.items ≡ [] → n.turns.items ≡ [] → HasEntered value M family n b ys
+      → z.places.items ≡ a.places.items ++ b.places.items → z.alarms.items ≡ a.alarms.items ++ b.alarms.items → z.turns.items ≡ a.turns.items ++ b.turns.items → HasEntered value M family a z ys
+  entered_behind a n b z ys no_places no_alarms no_turns h places alarms turns = record {
+    leaves = λ v. behind (leaf_there value v) a.places.items n.places.items b.places.items z.places.items (leaves_in (ys v)) no_places (h.leaves v) places;
+    stops = λ v. behind (stop_there v) a.alarms.items n.alarms.items b.alarms.items z.alarms.items (stops_in M family.options.now.mode (ys v)) no_alarms (h.stops v) alarms;
+    turns = λ v. behind (turn_there value v) a.turns.items n.turns.items b.turns.items z.turns.items (turns_in (ys v)) no_turns (h.turns v) turns;
+    trees = λ r. both_all (λ (p : PlaceTree L). IsReducedTree family (numbered p.tree)) a.places.items n.places.items b.places.items z.places.items no_places h.trees places r;
+    alarm_trees = λ r. both_all (λ (x : AlarmTree). IsReducedTree family (numbered x.tree)) a.alarms.items n.alarms.items b.alarms.items z.alarms.items no_alarms h.alarm_trees alarms r;
+    sized = λ r. both_all (λ (t : TurnTree L). IsSizedTurn value family t) a.turns.items n.turns.items b.turns.items z.turns.items no_turns h.sized turns r;
+  }
+
+  -- a loop, and the statements in its step and in its body, before which it was added
   pub loop_entered : (a b c z : Noted L) (at : ℕ) (place : Place) (s : Code) (x e g : List Bool → LeafValue) (ys : List Bool → List Visit) → at ≡ length a.turns.items
       → HasEntered value M family a b (λ v. record { place = place; statement = s; leaf = x v; turn = None } ∷ []) → HasEntered value M family b c ys
       → z.places.items ≡ c.places.items → z.alarms.items ≡ c.alarms.items
@@ -181,9 +202,10 @@ module _ (M : LeafMeaning) (mode : Mode) (ts : List Bool) where
   visits_at-followed H (If place e p q rest) b x =
       three_more (visits_at M mode ts H p (assumed M mode e true x)) (visits_at M mode ts H q (assumed M mode e false x)) _ _ _ _
       (visits_at-followed H rest b (M.join (passed M mode H (projected ts p) (assumed M mode e true x)) (passed M mode H (projected ts q) (assumed M mode e false x))))
-  visits_at-followed H (While place e body rest) b x =
-      two_more (visits_at M mode ts H body (assumed M mode e true (H place e (passed M mode H (projected ts body)) x))) _ _ _ _
-      (visits_at-followed H rest b (assumed M mode e false (H place e (passed M mode H (projected ts body)) x)))
+  visits_at-followed H (While place e step body rest) b x =
+      let y = head_by M mode H place e (projected ts step) (projected ts body) x in
+      let t = assumed M mode e true y in
+      three_more (visits_at M mode ts H step (passed M mode H (projected ts body) t)) (visits_at M mode ts H body t) _ _ _ _ (visits_at-followed H rest b (assumed M mode e false y))
   visits_at-followed H (Block place body rest) b x = two_more (visits_at M mode ts H body x) _ _ _ _ (visits_at-followed H rest b (passed M mode H (projected ts body) x))
   visits_at-followed H (Skip place rest) b x =
       ap (λ l. record { place = place; statement = Skip place Done; leaf = x; turn = None } ∷ l) (visits_at-followed H rest b x)
@@ -207,12 +229,15 @@ module _ (M : LeafMeaning) (mode : Mode) (ts : List Bool) where
       let f : front s Done ≡ If place (term e) (code p.items) (code q.items) Done = ap (λ s. front s Done) h ∙ front-If place e p q in
       rw f (ap (λ l. record { place = place; statement = If place (term e) (code p.items) (code q.items) Done; leaf = x; turn = None } ∷ (visits_at M mode ts H (code p.items) (assumed M mode (term e) true x) ++ l)) (sym (append-nil (visits_at M mode ts H (code q.items) (assumed M mode (term e) false x)))))
 
-  pub visits_at-While : (H : Heads) (s : Stmt) (place : Place) (e : Expr) (body : Vec Stmt Global) (x : LeafValue) → s ≡ variant.While place e body
-      → loop_visit M mode ts H place (front s Done) (term e) (code body.items) x ∷ visits_at M mode ts H (code body.items) (assumed M mode (term e) true (H place (term e) (passed M mode H (projected ts (code body.items))) x))
+  pub visits_at-While : (H : Heads) (s : Stmt) (place : Place) (e : Expr) (step body : Vec Stmt Global) (x : LeafValue) → s ≡ variant.While place e step body
+      → let t = assumed M mode (term e) true (head_by M mode H place (term e) (projected ts (code step.items)) (projected ts (code body.items)) x) in
+      loop_visit M mode ts H place (front s Done) (term e) (code step.items) (code body.items) x
+      ∷ (visits_at M mode ts H (code step.items) (passed M mode H (projected ts (code body.items)) t) ++ visits_at M mode ts H (code body.items) t)
       ≡ visits_at M mode ts H (front s Done) x
-  visits_at-While H s place e body x h =
-      let f : front s Done ≡ While place (term e) (code body.items) Done = ap (λ s. front s Done) h ∙ front-While place e body in
-      rw f (ap (λ l. loop_visit M mode ts H place (While place (term e) (code body.items) Done) (term e) (code body.items) x ∷ l) (sym (append-nil (visits_at M mode ts H (code body.items) (assumed M mode (term e) true (H place (term e) (passed M mode H (projected ts (code body.items))) x))))))
+  visits_at-While H s place e step body x h =
+      let f : front s Done ≡ While place (term e) (code step.items) (code body.items) Done = ap (λ s. front s Done) h ∙ front-While place e step body in
+      let t = assumed M mode (term e) true (head_by M mode H place (term e) (projected ts (code step.items)) (projected ts (code body.items)) x) in
+      rw f (ap (λ l. loop_visit M mode ts H place (While place (term e) (code step.items) (code body.items) Done) (term e) (code step.items) (code body.items) x ∷ (visits_at M mode ts H (code step.items) (passed M mode H (projected ts (code body.items)) t) ++ l)) (sym (append-nil (visits_at M mode ts H (code body.items) t))))
 
   pub visits_at-Block : (H : Heads) (s : Stmt) (place : Place) (body : Vec Stmt Global) (x : LeafValue) → s ≡ variant.Block place body
       → (record { place = place; statement = front s Done; leaf = x; turn = None } ∷ []) ++ visits_at M mode ts H (code body.items) x ≡ visits_at M mode ts H (front s Done) x

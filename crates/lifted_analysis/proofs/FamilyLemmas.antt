@@ -48,10 +48,10 @@ module _ (M : LeafMeaning) (family : FamilyContext) where
   after_at-If s place e p q v x h =
       ap (λ c. after_of M family.options.now (projected (truths_in family.choices.now v) c) x) (sym (ap (λ s. front s Done) h ∙ front-If place e p q))
 
-  pub after_at-While : (s : Stmt) (place : Place) (e : Expr) (body : Vec Stmt Global) (v : List Bool) (x : LeafValue) → s ≡ variant.While place e body
-      → assumed M family.options.now.mode (term e) false (final_at M family (term e) (code body.items) v x) ≡ after_at M family (front s Done) v x
-  after_at-While s place e body v x h =
-      ap (λ c. after_of M family.options.now (projected (truths_in family.choices.now v) c) x) (sym (ap (λ s. front s Done) h ∙ front-While place e body))
+  pub after_at-While : (s : Stmt) (place : Place) (e : Expr) (step body : Vec Stmt Global) (v : List Bool) (x : LeafValue) → s ≡ variant.While place e step body
+      → assumed M family.options.now.mode (term e) false (final_at M family (term e) (code step.items) (code body.items) v x) ≡ after_at M family (front s Done) v x
+  after_at-While s place e step body v x h =
+      ap (λ c. after_of M family.options.now (projected (truths_in family.choices.now v) c) x) (sym (ap (λ s. front s Done) h ∙ front-While place e step body))
 
   pub after_at-Block : (s : Stmt) (place : Place) (body : Vec Stmt Global) (v : List Bool) (x : LeafValue) → s ≡ variant.Block place body
       → after_at M family (code body.items) v x ≡ after_at M family (front s Done) v x

@@ -73,33 +73,35 @@ module _ {L : Type 0} (value : L → LeafValue) (M : LeafMeaning) (family : Fami
       subst (λ j. IsFinal value M family forest j last) (sym (same_key k at.0 at.2)) at.1
 
   -- what is found is the final tree
-  pub recalled_made : {E : Type 0} (made : Result (Tree L) E) (forest : List (Plain L)) (f : Finals L) (k : Entered) (last : Tree L) (t : Numbered L) (test : Term) (body : Code)
-      → Remembers value M family forest f → lookup (same_entered k) f.entries.entries ≡ Some last → root t ≡ k.number → IsState value family forest t → IsLoopAt (whole family.program.now) k.place test body
-      → IfOk made (λ r. numbered r ≡ numbered last) → IfOk made (λ r. IsLifted value family forest forest (final_at M family test body) (erase t) (numbered r))
-  recalled_made (Ok r) forest f k last t test body m e n s here is =
+  pub recalled_made : {E : Type 0} (made : Result (Tree L) E) (forest : List (Plain L)) (f : Finals L) (k : Entered) (last : Tree L) (t : Numbered L) (test : Term) (step body : Code)
+      → Remembers value M family forest f → lookup (same_entered k) f.entries.entries ≡ Some last → root t ≡ k.number → IsState value family forest t → IsLoopAt (whole family.program.now) k.place test step body
+      → IfOk made (λ r. numbered r ≡ numbered last) → IfOk made (λ r. IsLifted value family forest forest (final_at M family test step body) (erase t) (numbered r))
+  recalled_made (Ok r) forest f k last t test step body m e n s here is =
       let known = recalled forest f k last m e in
       let same : erase known.entered ≡ erase t = (numbers_tell forest known.entered t known.own s.tree.own).0 (known.number ∙ sym n) in
       record {
         state = state_as value family forest (numbered last) (numbered r) is known.state;
         keeps = keeps_same forest forest refl;
-        at_each = λ v. ap (λ u. value (leaf_of (erase u) v)) is ∙ (known.final test body here v ∙ ap (λ u. final_at M family test body v (value (leaf_of u v))) same);
+        at_each = λ v. ap (λ u. value (leaf_of (erase u) v)) is ∙ (known.final test step body here v ∙ ap (λ u. final_at M family test step body v (value (leaf_of u v))) same);
       }
-  recalled_made (Err x) forest f k last t test body m e n s here is = tt
+  recalled_made (Err x) forest f k last t test step body m e n s here is = tt
 
   -- one more is remembered
-  pub remembered : (a b : List (Plain L)) (f g : Finals L) (k : Entered) (last : Tree L) (t : Numbered L) (r : Numbered L) (test : Term) (body : Code)
-      → Remembers value M family b f → root t ≡ k.number → IsState value family a t → IsLoopAt (whole family.program.now) k.place test body
-      → IsLifted value family a b (final_at M family test body) (erase t) r → numbered last ≡ r → g.entries.entries ≡ insert_entry same_entered f.entries.entries k last → Remembers value M family b g
-  remembered a b f g k last t r test body m n s here is same e =
+  pub remembered : (a b : List (Plain L)) (f g : Finals L) (k : Entered) (last : Tree L) (t : Numbered L) (r : Numbered L) (test : Term) (step body : Code)
+      → Remembers value M family b f → root t ≡ k.number → IsState value family a t → IsLoopAt (whole family.program.now) k.place test step body
+      → IsLifted value family a b (final_at M family test step body) (erase t) r → numbered last ≡ r → g.entries.entries ≡ insert_entry same_entered f.entries.entries k last → Remembers value M family b g
+  remembered a b f g k last t r test step body m n s here is same e =
       let final : IsFinal value M family b k last = record {
         entered = t;
         number = n;
         own = is.keeps.stay t s.tree.own;
         state = state_as value family b r (numbered last) same is.state;
-        final = λ test' body' there v.
-            let one = one_loop (whole family.program.now) k.place test test' body body' here there in
+        final = λ test' step' body' there v.
+            let one = one_loop (whole family.program.now) k.place test test' step step' body body' here there in
             let x = value (leaf_of (erase t) v) in
-            ap (λ u. value (leaf_of (erase u) v)) same ∙ (is.at_each v ∙ (ap (λ q. final_at M family q body v x) one.0 ∙ ap (λ c. final_at M family test' c v x) one.1));
+            ap (λ u. value (leaf_of (erase u) v)) same
+            ∙ (is.at_each v
+            ∙ (ap (λ q. final_at M family q step body v x) one.0 ∙ (ap (λ c. final_at M family test' c body v x) one.1 ∙ ap (λ c. final_at M family test' step' c v x) one.2)));
       } in
       record {
         each = subst (λ es. AllByRecursion (λ (d : Entered × Tree L). IsFinal value M family b d.0 d.1) es) (sym e)

@@ -18,7 +18,7 @@ use Rattle.leaf_domain.specs.Stops.{may_at}
 use Rattle.leaf_domain.specs.Transfer.{assumed, assigned, forgotten}
 use Rattle.c_tree.specs.declared.tree.Mode.{Mode}
 use Rattle.plain_analysis.specs.Places.{is_same_place, entry_in, leaf_or, at_by, may_stop, alarm_by}
-use Rattle.plain_analysis.specs.Statements.{Heads, Entry, passed, entries_by}
+use Rattle.plain_analysis.specs.Statements.{Heads, Entry, passed, head_by, entries_by}
 use Rattle.plain_analysis.proofs.Located.{none_at_end, same_places, at_end}
 use Rattle.lifted_analysis.specs.Entries.{Visit, visits_at, leaves_in, stops_in, turns_in}
 use Rattle.lifted_analysis.specs.Promises.{by_kind}
@@ -60,10 +60,13 @@ module _ (M : LeafMeaning) (mode : Mode) (ts : List Bool) where
       let j = M.join (passed M mode H (projected ts p) t) (passed M mode H (projected ts q) f) in
       ap (λ l. place ∷ l) (three_parts (visits_at M mode ts H p t) (visits_at M mode ts H q f) (visits_at M mode ts H rest j)
       ∙ sides _ _ _ _ _ _ (places_at H p t) (places_at H q f) (places_at H rest j))
-  places_at H (While place e body rest) x =
-      let F = H place e (passed M mode H (projected ts body)) x in
-      ap (λ l. place ∷ l) (map-append place_of (visits_at M mode ts H body (assumed M mode e true F)) (visits_at M mode ts H rest (assumed M mode e false F)))
-      ∙ two place _ _ _ _ (places_at H body (assumed M mode e true F)) (places_at H rest (assumed M mode e false F))
+  places_at H (While place e step body rest) x =
+      let F = head_by M mode H place e (projected ts step) (projected ts body) x in
+      let t = assumed M mode e true F in
+      let f = assumed M mode e false F in
+      let r = passed M mode H (projected ts body) t in
+      ap (λ l. place ∷ l) (three_parts (visits_at M mode ts H step r) (visits_at M mode ts H body t) (visits_at M mode ts H rest f)
+      ∙ sides _ _ _ _ _ _ (places_at H step r) (places_at H body t) (places_at H rest f))
   places_at H (Block place body rest) x =
       let r = passed M mode H (projected ts body) x in
       ap (λ l. place ∷ l) (map-append place_of (visits_at M mode ts H body x) (visits_at M mode ts H rest r)) ∙ two place _ _ _ _ (places_at H body x) (places_at H rest r)
@@ -90,10 +93,13 @@ module _ (M : LeafMeaning) (mode : Mode) (ts : List Bool) where
       let j = M.join (passed M mode H (projected ts p) t) (passed M mode H (projected ts q) f) in
       three_loops (visits_at M mode ts H p t) (visits_at M mode ts H q f) (visits_at M mode ts H rest j)
       ∙ sides _ _ _ _ _ _ (loops_at H p t) (loops_at H q f) (loops_at H rest j)
-  loops_at H (While place e body rest) x =
-      let F = H place e (passed M mode H (projected ts body)) x in
-      ap (λ l. place ∷ l) (loops_in-append (visits_at M mode ts H body (assumed M mode e true F)) (visits_at M mode ts H rest (assumed M mode e false F)))
-      ∙ two place _ _ _ _ (loops_at H body (assumed M mode e true F)) (loops_at H rest (assumed M mode e false F))
+  loops_at H (While place e step body rest) x =
+      let F = head_by M mode H place e (projected ts step) (projected ts body) x in
+      let t = assumed M mode e true F in
+      let f = assumed M mode e false F in
+      let r = passed M mode H (projected ts body) t in
+      ap (λ l. place ∷ l) (three_loops (visits_at M mode ts H step r) (visits_at M mode ts H body t) (visits_at M mode ts H rest f)
+      ∙ sides _ _ _ _ _ _ (loops_at H step r) (loops_at H body t) (loops_at H rest f))
   loops_at H (Block place body rest) x =
       let r = passed M mode H (projected ts body) x in
       loops_in-append (visits_at M mode ts H body x) (visits_at M mode ts H rest r)

@@ -27,7 +27,7 @@ use Rattle.leaf_domain.specs.Transfer.{assumed, assigned, forgotten}
 use Rattle.leaf_domain.proofs.Answered.{answers_then}
 use Rattle.plain_analysis.specs.Places.{at_by, alarm_by}
 use Rattle.plain_analysis.specs.Promises.{AreHeld, RunsForeseenBy}
-use Rattle.plain_analysis.specs.Statements.{Heads, passed}
+use Rattle.plain_analysis.specs.Statements.{Heads, passed, lap, head_by}
 use Rattle.plain_analysis.proofs.JoinLemmas.{join_answer}
 use Rattle.plain_analysis.proofs.Promised.{runs}
 use Rattle.tree_unify.specs.Formulas as formulas
@@ -68,7 +68,7 @@ all_second : {X : Type 0} (P : X → Type 0) (xs ys : List X) → All P (xs ++ y
 all_second P xs ys h = subst (All P) (drop_at xs ys (length xs) refl) (All-drop P (length xs) (xs ++ ys) h)
 
 module _ (M : LeafMeaning) (laws : LeafLaws M) (mode : Mode) (A : TransferAnswers M mode) (n : ℕ) (H : Heads) (fit : AreFit M mode n H) where
-  -- heads of inductive loops hold what enters them and what comes from their bodies
+  -- heads of inductive loops hold what enters them and what comes from their bodies and their steps
   pub inductive_heads_hold : (c : Code) → IsCodeOf n c → (x : LeafValue) → M.valid x → x.variables ≡ n → AreInductive M (turns_by M mode H c x) → AreHeld M mode H c x
   inductive_heads_hold Done over x h c i = tt
   inductive_heads_hold (Assign place y e rest) over x h c i =
@@ -97,27 +97,33 @@ module _ (M : LeafMeaning) (laws : LeafLaws M) (mode : Mode) (A : TransferAnswer
         inductive_heads_hold q over.2 no f.valid (f.same ∙ c) (all_first (λ (t : Turn). is_inductive M t ≡ true) qs rs behind),
         inductive_heads_hold rest over.3 w j.valid (j.same ∙ c) (all_second (λ (t : Turn). is_inductive M t ≡ true) qs rs behind),
       )
-  inductive_heads_hold (While place e body rest) over x h c i =
-      let f = passed M mode H body in
-      let head = H place e f x in
-      let a = fit.answers place e body x h c over.0 over.1 in
+  inductive_heads_hold (While place e step body rest) over x h c i =
+      let head = head_by M mode H place e step body x in
+      let a = fit.answers place e step body x h c over.0 over.1 over.2 in
       let yes = assumed M mode e true head in
       let no = assumed M mode e false head in
       let t = A.assumed_answers e true head (suits M laws mode A n H fit e head a.valid (a.same ∙ c) over.0) in
       let u = A.assumed_answers e false head (suits M laws mode A n H fit e head a.valid (a.same ∙ c) over.0) in
-      let b = passed_keeps M laws mode A n H fit body over.1 yes t.valid (t.same ∙ (a.same ∙ c)) in
+      let b = passed_keeps M laws mode A n H fit body over.2 yes t.valid (t.same ∙ (a.same ∙ c)) in
+      let behind = passed M mode H body yes in
+      let behind_count : behind.variables ≡ n = b.same ∙ (t.same ∙ (a.same ∙ c)) in
+      let d = passed_keeps M laws mode A n H fit step over.1 behind b.valid behind_count in
+      let again = lap M mode H step body yes in
+      let ss = turns_by M mode H step behind in
       let bs = turns_by M mode H body yes in
       let rs = turns_by M mode H rest no in
-      let turn : Turn = record { place = place; entered = x; head = head; again = f yes } in
-      let one : is_inductive M turn ≡ true = All-head (λ (t : Turn). is_inductive M t ≡ true) turn (bs ++ rs) i in
-      let others = All-tail (λ (t : Turn). is_inductive M t ≡ true) turn (bs ++ rs) i in (
+      let turn : Turn = record { place = place; entered = x; head = head; again = again } in
+      let one : is_inductive M turn ≡ true = All-head (λ (t : Turn). is_inductive M t ≡ true) turn (ss ++ (bs ++ rs)) i in
+      let others = All-tail (λ (t : Turn). is_inductive M t ≡ true) turn (ss ++ (bs ++ rs)) i in
+      let later = all_second (λ (t : Turn). is_inductive M t ≡ true) ss (bs ++ rs) others in (
         record {
           answers = a;
-          entered = λ store k. laws.leq_holds x head store (record { first = h; second = a.valid; same = sym a.same }) (left_so (M.leq x head) (M.leq (f yes) head) one) k;
-          again = λ store k. laws.leq_holds (f yes) head store (record { first = b.valid; second = a.valid; same = b.same ∙ t.same }) (right_so (M.leq x head) (M.leq (f yes) head) one) k;
+          entered = λ store k. laws.leq_holds x head store (record { first = h; second = a.valid; same = sym a.same }) (left_so (M.leq x head) (M.leq again head) one) k;
+          again = λ store k. laws.leq_holds again head store (record { first = d.valid; second = a.valid; same = d.same ∙ (b.same ∙ t.same) }) (right_so (M.leq x head) (M.leq again head) one) k;
         },
-        inductive_heads_hold body over.1 yes t.valid (t.same ∙ (a.same ∙ c)) (all_first (λ (t : Turn). is_inductive M t ≡ true) bs rs others),
-        inductive_heads_hold rest over.2 no u.valid (u.same ∙ (a.same ∙ c)) (all_second (λ (t : Turn). is_inductive M t ≡ true) bs rs others),
+        inductive_heads_hold step over.1 behind b.valid behind_count (all_first (λ (t : Turn). is_inductive M t ≡ true) ss (bs ++ rs) others),
+        inductive_heads_hold body over.2 yes t.valid (t.same ∙ (a.same ∙ c)) (all_first (λ (t : Turn). is_inductive M t ≡ true) bs rs later),
+        inductive_heads_hold rest over.3 no u.valid (u.same ∙ (a.same ∙ c)) (all_second (λ (t : Turn). is_inductive M t ≡ true) bs rs later),
       )
   inductive_heads_hold (Block place body rest) over x h c i =
       let a = passed_keeps M laws mode A n H fit body over.0 x h c in

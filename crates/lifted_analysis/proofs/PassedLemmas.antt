@@ -17,7 +17,7 @@ use Rattle.leaf_domain.proofs.Answered.{answers_self, answers_then}
 use Rattle.plain_analysis.specs.declared.options.Options.{Options}
 use Rattle.lifted_analysis.proofs.StateLemmas.{without_rounds}
 use Rattle.plain_analysis.specs.Places.{is_same_place}
-use Rattle.plain_analysis.specs.Statements.{Heads, passed, final_heads}
+use Rattle.plain_analysis.specs.Statements.{Heads, passed, head_by, final_heads}
 use Rattle.plain_analysis.proofs.JoinLemmas.{join_answer}
 use Rattle.plain_analysis.proofs.Nothing.{after_nothing}
 use Rattle.plain_analysis.proofs.Recursion.{final_of_code}
@@ -35,7 +35,7 @@ module _ (M : LeafMeaning) (mode : Mode) (H : Heads) where
   passed-followed (Assert place e rest) b v = passed-followed rest b (assumed M mode e true v)
   passed-followed (If place e p q rest) b v =
       passed-followed rest b (M.join (passed M mode H p (assumed M mode e true v)) (passed M mode H q (assumed M mode e false v)))
-  passed-followed (While place e body rest) b v = passed-followed rest b (assumed M mode e false (H place e (passed M mode H body) v))
+  passed-followed (While place e step body rest) b v = passed-followed rest b (assumed M mode e false (head_by M mode H place e step body v))
   passed-followed (Block place body rest) b v = passed-followed rest b (passed M mode H body v)
   passed-followed (Skip place rest) b v = passed-followed rest b v
   passed-followed (Cond number p q rest) b v = passed-followed rest b v
@@ -44,7 +44,7 @@ module _ (M : LeafMeaning) (mode : Mode) (H : Heads) where
 
 -- heads that are leaves of the kind over n variables, where their loops are entered with such leaves
 pub record AreFit (M : LeafMeaning) (mode : Mode) (n : ℕ) (H : Heads) : Type 0 where
-  pub answers : (place : Place) (e : Term) (body : Code) (x : LeafValue) → M.valid x → x.variables ≡ n → IsTermOf n e → IsCodeOf n body → IsLeafLike M x (H place e (passed M mode H body) x)
+  pub answers : (place : Place) (e : Term) (step body : Code) (x : LeafValue) → M.valid x → x.variables ≡ n → IsTermOf n e → IsCodeOf n step → IsCodeOf n body → IsLeafLike M x (head_by M mode H place e step body x)
 
 module _ (M : LeafMeaning) (laws : LeafLaws M) (mode : Mode) (A : TransferAnswers M mode) (n : ℕ) (H : Heads) (fit : AreFit M mode n H) where
   pub suits : (e : Term) (v : LeafValue) → M.valid v → v.variables ≡ n → IsTermOf n e → Suits M e v
@@ -71,10 +71,11 @@ module _ (M : LeafMeaning) (laws : LeafLaws M) (mode : Mode) (A : TransferAnswer
       let b = answers_then x _ _ f (passed_keeps q over.2 (assumed M mode e false x) f.valid (f.same ∙ c)) in
       let j = join_answer M laws x (passed M mode H p (assumed M mode e true x)) (passed M mode H q (assumed M mode e false x)) a b in
       answers_then x _ _ j (passed_keeps rest over.3 (M.join (passed M mode H p (assumed M mode e true x)) (passed M mode H q (assumed M mode e false x))) j.valid (j.same ∙ c))
-  passed_keeps (While place e body rest) over x h c =
-      let i = fit.answers place e body x h c over.0 over.1 in
-      let v = answers_then x _ _ i (A.assumed_answers e false (H place e (passed M mode H body) x) (suits e (H place e (passed M mode H body) x) i.valid (i.same ∙ c) over.0)) in
-      answers_then x _ _ v (passed_keeps rest over.2 (assumed M mode e false (H place e (passed M mode H body) x)) v.valid (v.same ∙ c))
+  passed_keeps (While place e step body rest) over x h c =
+      let y = head_by M mode H place e step body x in
+      let i = fit.answers place e step body x h c over.0 over.1 over.2 in
+      let v = answers_then x y _ i (A.assumed_answers e false y (suits e y i.valid (i.same ∙ c) over.0)) in
+      answers_then x _ _ v (passed_keeps rest over.3 (assumed M mode e false y) v.valid (v.same ∙ c))
   passed_keeps (Block place body rest) over x h c =
       let a = passed_keeps body over.0 x h c in
       answers_then x _ _ a (passed_keeps rest over.1 (passed M mode H body x) a.valid (a.same ∙ c))
@@ -108,7 +109,7 @@ module _ (M : LeafMeaning) (laws : LeafLaws M) (mode : Mode) (A : TransferAnswer
       ap (passed M mode no_heads rest) (joined_nothing (passed M mode no_heads p (assumed M mode e true (nothing_of n))) (passed M mode no_heads q (assumed M mode e false (nothing_of n)))
       (ap (passed M mode no_heads p) (assumed_nothing e true) ∙ passed_nothing p) (ap (passed M mode no_heads q) (assumed_nothing e false) ∙ passed_nothing q))
       ∙ passed_nothing rest
-  passed_nothing (While place e body rest) = ap (passed M mode no_heads rest) (assumed_nothing e false) ∙ passed_nothing rest
+  passed_nothing (While place e step body rest) = ap (passed M mode no_heads rest) (assumed_nothing e false) ∙ passed_nothing rest
   passed_nothing (Block place body rest) = ap (passed M mode no_heads rest) (passed_nothing body) ∙ passed_nothing rest
   passed_nothing (Skip place rest) = passed_nothing rest
   passed_nothing (Cond number p q rest) = passed_nothing rest
@@ -117,7 +118,8 @@ module _ (M : LeafMeaning) (laws : LeafLaws M) (mode : Mode) (A : TransferAnswer
 
 pub final_fit : (M : LeafMeaning) → LeafLaws M → (o : Options) → TransferAnswers M o.mode → (n : ℕ) → AreFit M o.mode n (final_heads M o)
 final_fit M laws o A n = record {
-  answers = λ place e body x h c t k. final_of_code M laws o A e body x h (subst (λ m. IsTermOf m e) (sym c) t) (subst (λ m. IsCodeOf m body) (sym c) k);
+  answers = λ place e step body x h c t j k.
+      final_of_code M laws o A e step body x h (subst (λ m. IsTermOf m e) (sym c) t) (subst (λ m. IsCodeOf m step) (sym c) j) (subst (λ m. IsCodeOf m body) (sym c) k);
 }
 
 module _ (M : LeafMeaning) (laws : LeafLaws M) where
@@ -145,5 +147,5 @@ module _ (M : LeafMeaning) (laws : LeafLaws M) where
 
   pub given_fit : (mode : Mode) (lines : List LoopLine) (v : List Bool) (d : LeafValue) → M.valid d → All (λ (l : LoopLine). AreVariableBounds d.variables l.bounds) lines → AreFit M mode d.variables (given_heads M lines v d)
   given_fit mode lines v d h i = record {
-    answers = λ place e body x g c t k. let a = given_answers lines v d place h i in record { valid = a.valid; same = a.same ∙ sym c };
+    answers = λ place e step body x g c t j k. let a = given_answers lines v d place h i in record { valid = a.valid; same = a.same ∙ sym c };
   }

@@ -21,7 +21,7 @@ use Rattle.decision_tree.proofs.Numbers.{keeps_both}
 use Rattle.leaf_domain.specs.Leaves.{LeafValue, LeafMeaning, LeafLaws, nothing_of}
 use Rattle.leaf_domain.specs.Soundness.{TransferAnswers}
 use Rattle.leaf_domain.specs.Transfer.{assumed}
-use Rattle.plain_analysis.specs.Statements.{Heads, passed}
+use Rattle.plain_analysis.specs.Statements.{Heads, passed, head_by}
 use Rattle.plain_analysis.proofs.Listed.{front-If, front-While, front-Block}
 use Rattle.lifted_analysis.specs.declared.family_context.FamilyContext.{FamilyContext}
 use Rattle.lifted_analysis.specs.declared.finals.Finals.{Finals}
@@ -51,10 +51,10 @@ module _ (M : LeafMeaning) (family : FamilyContext) (H : List Bool → Heads) wh
   passed_with-If s place e p q v x h =
       ap (λ c. passed M family.options.now.mode (H v) (projected (truths_in family.choices.now v) c) x) (sym (ap (λ s. front s Done) h ∙ front-If place e p q))
 
-  pub passed_with-While : (s : Stmt) (place : Place) (e : Expr) (body : Vec Stmt Global) (v : List Bool) (x : LeafValue) → s ≡ variant.While place e body
-      → assumed M family.options.now.mode (term e) false (head_with M family H place (term e) (code body.items) v x) ≡ passed_with M family H (front s Done) v x
-  passed_with-While s place e body v x h =
-      ap (λ c. passed M family.options.now.mode (H v) (projected (truths_in family.choices.now v) c) x) (sym (ap (λ s. front s Done) h ∙ front-While place e body))
+  pub passed_with-While : (s : Stmt) (place : Place) (e : Expr) (step body : Vec Stmt Global) (v : List Bool) (x : LeafValue) → s ≡ variant.While place e step body
+      → assumed M family.options.now.mode (term e) false (head_with M family H place (term e) (code step.items) (code body.items) v x) ≡ passed_with M family H (front s Done) v x
+  passed_with-While s place e step body v x h =
+      ap (λ c. passed M family.options.now.mode (H v) (projected (truths_in family.choices.now v) c) x) (sym (ap (λ s. front s Done) h ∙ front-While place e step body))
 
   pub passed_with-Block : (s : Stmt) (place : Place) (body : Vec Stmt Global) (v : List Bool) (x : LeafValue) → s ≡ variant.Block place body
       → passed_with M family H (code body.items) v x ≡ passed_with M family H (front s Done) v x
@@ -162,7 +162,8 @@ module _ {L : Type 0} (value : L → LeafValue) (M : LeafMeaning) (family : Fami
   rule_heads false start rule.Rounds v d e f = refl
 
   -- a head where its loop is kept, and Nothing elsewhere
-  pub head_kept : (b : Bool) (R : List Bool → Heads) (place : Place) (test : Term) (body : Code) (v : List Bool) (x : LeafValue) → (head_with M family R place test body v x).variables ≡ x.variables
-      → kept_by true b (head_with M family R place test body v x) ≡ heads_where b (R v) place test (passed M family.options.now.mode (heads_where b (R v)) (projected (truths_in family.choices.now v) body)) x
-  head_kept true R place test body v x e = refl
-  head_kept false R place test body v x e = ap (λ n. nothing_of n) e
+  pub head_kept : (b : Bool) (R : List Bool → Heads) (place : Place) (test : Term) (step body : Code) (v : List Bool) (x : LeafValue) → (head_with M family R place test step body v x).variables ≡ x.variables
+      → kept_by true b (head_with M family R place test step body v x)
+      ≡ head_by M family.options.now.mode (heads_where b (R v)) place test (projected (truths_in family.choices.now v) step) (projected (truths_in family.choices.now v) body) x
+  head_kept true R place test step body v x e = refl
+  head_kept false R place test step body v x e = ap (λ n. nothing_of n) e

@@ -14,18 +14,18 @@ use Rattle.decision_tree.specs.View.{numbered, plain}
 use Rattle.leaf_domain.specs.Leaves.{LeafValue, LeafMeaning}
 use Rattle.leaf_domain.specs.Transfer.{assumed, assigned, forgotten}
 use Rattle.leaf_domain.specs.Stops.{may_at}
-use Rattle.plain_analysis.specs.Statements.{Heads, passed}
+use Rattle.plain_analysis.specs.Statements.{Heads, passed, lap, head_by}
 use Rattle.lifted_analysis.specs.declared.noted.Noted.{Noted}
 use Rattle.lifted_analysis.specs.declared.noted.TurnTree.{TurnTree}
 use Rattle.lifted_analysis.specs.declared.family_context.FamilyContext.{FamilyContext}
 use Rattle.lifted_analysis.specs.declared.findings.PlaceTree.{PlaceTree}
 use Rattle.lifted_analysis.specs.declared.findings.AlarmTree.{AlarmTree}
-use Rattle.lifted_analysis.specs.Rules.{heads_where, head_with}
+use Rattle.lifted_analysis.specs.Rules.{heads_where, passed_with, head_with}
 use Rattle.lifted_analysis.specs.States.{IsTest, IsSized, truths_in}
 use Rattle.lifted_analysis.specs.Steps.{kept_by}
 use Rattle.lifted_analysis.specs.Turns.{Turn}
 
--- a statement, alone, the leaf at its place, and for a loop the leaf with which it is entered and that after its body
+-- a statement, alone, the leaf at its place, and for a loop the leaf with which it is entered and that after its body and step
 pub record Visit : Type 0 where
   pub place : Place
   pub statement : Code
@@ -33,13 +33,15 @@ pub record Visit : Type 0 where
   pub turn : Option (LeafValue × LeafValue)
 
 -- a loop of a family's list
-abbrev pub loop_visit : LeafMeaning → Mode → List Bool → Heads → Place → Code → Term → Code → LeafValue → Visit
-loop_visit M mode ts H place s e body x = record {
-  place = place;
-  statement = s;
-  leaf = H place e (passed M mode H (projected ts body)) x;
-  turn = Some (x, passed M mode H (projected ts body) (assumed M mode e true (H place e (passed M mode H (projected ts body)) x)));
-}
+abbrev pub loop_visit : LeafMeaning → Mode → List Bool → Heads → Place → Code → Term → Code → Code → LeafValue → Visit
+loop_visit M mode ts H place s e step body x =
+    let y = head_by M mode H place e (projected ts step) (projected ts body) x in
+    record {
+      place = place;
+      statement = s;
+      leaf = y;
+      turn = Some (x, lap M mode H (projected ts step) (projected ts body) (assumed M mode e true y));
+    }
 
 -- all statements of a family's list that is entered with x, in the order of the text, where the conditions have these truths
 -- and loops these heads; a statement that is not kept there has Nothing
@@ -56,10 +58,12 @@ visits_at M mode ts H (If place e p q rest) x =
     ∷ (visits_at M mode ts H p (assumed M mode e true x)
     ++ (visits_at M mode ts H q (assumed M mode e false x)
     ++ visits_at M mode ts H rest (M.join (passed M mode H (projected ts p) (assumed M mode e true x)) (passed M mode H (projected ts q) (assumed M mode e false x)))))
-visits_at M mode ts H (While place e body rest) x =
-    loop_visit M mode ts H place (While place e body Done) e body x
-    ∷ (visits_at M mode ts H body (assumed M mode e true (H place e (passed M mode H (projected ts body)) x))
-    ++ visits_at M mode ts H rest (assumed M mode e false (H place e (passed M mode H (projected ts body)) x)))
+visits_at M mode ts H (While place e step body rest) x =
+    let y = head_by M mode H place e (projected ts step) (projected ts body) x in
+    loop_visit M mode ts H place (While place e step body Done) e step body x
+    ∷ (visits_at M mode ts H step (passed M mode H (projected ts body) (assumed M mode e true y))
+    ++ (visits_at M mode ts H body (assumed M mode e true y)
+    ++ visits_at M mode ts H rest (assumed M mode e false y)))
 visits_at M mode ts H (Block place body rest) x =
     record { place = place; statement = Block place body Done; leaf = x; turn = None }
     ∷ (visits_at M mode ts H body x ++ visits_at M mode ts H rest (passed M mode H (projected ts body) x))
@@ -141,12 +145,20 @@ entered_group value M family H choice p q t v =
     visits_at M family.options.now.mode (truths_in family.choices.now v) (heads_where (leaf_of choice v) (H v)) p (kept_by true (leaf_of choice v) (value (leaf_of t v)))
     ++ visits_at M family.options.now.mode (truths_in family.choices.now v) (heads_where (not (leaf_of choice v)) (H v)) q (kept_by false (leaf_of choice v) (value (leaf_of t v)))
 
--- a loop and the statements in its body
-abbrev pub entered_loop : {L : Type 0} → (L → LeafValue) → LeafMeaning → FamilyContext → (List Bool → Heads) → Code → Place → Term → Code → Plain L → List Bool → List Visit
-entered_loop value M family H s place test body t v =
-    loop_visit M family.options.now.mode (truths_in family.choices.now v) (H v) place s test body (value (leaf_of t v))
-    ∷ visits_at M family.options.now.mode (truths_in family.choices.now v) (H v) body
-    (assumed M family.options.now.mode test true (head_with M family H place test body v (value (leaf_of t v))))
+-- the statements in the step and in the body of a loop
+abbrev pub entered_lap : {L : Type 0} → (L → LeafValue) → LeafMeaning → FamilyContext → (List Bool → Heads) → Code → Code → Plain L → List Bool → List Visit
+entered_lap value M family H step body t v =
+    let y = value (leaf_of t v) in
+    visits_at M family.options.now.mode (truths_in family.choices.now v) (H v) step (passed_with M family H body v y)
+    ++ visits_at M family.options.now.mode (truths_in family.choices.now v) (H v) body y
+
+-- a loop and the statements in its step and in its body
+abbrev pub entered_loop : {L : Type 0} → (L → LeafValue) → LeafMeaning → FamilyContext → (List Bool → Heads) → Code → Place → Term → Code → Code → Plain L → List Bool → List Visit
+entered_loop value M family H s place test step body t v =
+    let y = assumed M family.options.now.mode test true (head_with M family H place test step body v (value (leaf_of t v))) in
+    loop_visit M family.options.now.mode (truths_in family.choices.now v) (H v) place s test step body (value (leaf_of t v))
+    ∷ (visits_at M family.options.now.mode (truths_in family.choices.now v) (H v) step (passed_with M family H body v y)
+    ++ visits_at M family.options.now.mode (truths_in family.choices.now v) (H v) body y)
 
 -- these statements, each with its tree and its alarm trees, the loops among them, and nothing else
 pub record HasEntered {L : Type 0} (value : L → LeafValue) (M : LeafMeaning) (family : FamilyContext) (before now : Noted L) (entries : List Bool → List Visit) : Type 0 where

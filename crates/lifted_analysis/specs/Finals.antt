@@ -26,8 +26,8 @@ pub record IsFinal {L : Type 0} (value : L → LeafValue) (M : LeafMeaning) (fam
   pub number : root entered ≡ k.number
   pub own : IsOf forest entered
   pub state : IsState value family forest (numbered last)
-  pub final : (test : Term) (body : Code) → IsLoopAt (whole family.program.now) k.place test body
-      → (v : List Bool) → value (leaf_of (plain last) v) ≡ final_at M family test body v (value (leaf_of (erase entered) v))
+  pub final : (test : Term) (step body : Code) → IsLoopAt (whole family.program.now) k.place test step body
+      → (v : List Bool) → value (leaf_of (plain last) v) ≡ final_at M family test step body v (value (leaf_of (erase entered) v))
 
 -- all that is remembered is so
 pub record Remembers {L : Type 0} (value : L → LeafValue) (M : LeafMeaning) (family : FamilyContext) (forest : List (Plain L)) (f : Finals L) : Type 0 where

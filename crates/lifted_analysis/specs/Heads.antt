@@ -14,14 +14,14 @@ use Rattle.lifted_analysis.specs.Steps.{turn_at, final_at}
 
 -- what comes in at the head of a loop at a vector, where it is entered with the tree's leaf there, by the leaf that the head has
 abbrev pub turns_over : {L : Type 0} → (L → LeafValue) → LeafMeaning → FamilyContext → Loop → Plain L → List Bool → LeafValue → LeafValue
-turns_over value M family l t v = turn_at M family (term l.test.now) (code l.body.now) v (value (leaf_of t v))
+turns_over value M family l t v = turn_at M family (term l.test.now) (code l.step.now) (code l.body.now) v (value (leaf_of t v))
 
 -- the final leaf of a loop, and its head where loops have these heads
 abbrev pub final_over : LeafMeaning → FamilyContext → Loop → List Bool → LeafValue → LeafValue
-final_over M family l = final_at M family (term l.test.now) (code l.body.now)
+final_over M family l = final_at M family (term l.test.now) (code l.step.now) (code l.body.now)
 
 abbrev pub head_over : LeafMeaning → FamilyContext → (List Bool → Heads) → Loop → List Bool → LeafValue → LeafValue
-head_over M family H l = head_with M family H l.place (term l.test.now) (code l.body.now)
+head_over M family H l = head_with M family H l.place (term l.test.now) (code l.step.now) (code l.body.now)
 
 -- a tree, and the tree of what comes in with its leaves
 pub record IsHeadOf {L : Type 0} (value : L → LeafValue) (family : FamilyContext) (forest : List (Plain L)) (G : List Bool → LeafValue → LeafValue) (head : Head L) : Type 0 where

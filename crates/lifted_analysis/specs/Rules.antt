@@ -21,7 +21,7 @@ use Rattle.lifted_analysis.specs.Lines.{given_heads}
 use Rattle.lifted_analysis.specs.States.{IsState, truths_in}
 
 abbrev pub no_heads : Heads
-no_heads place test body x = nothing_of x.variables
+no_heads place test lap x = nothing_of x.variables
 
 -- these heads where statements are kept, and Nothing elsewhere
 abbrev pub heads_where : Bool → Heads → Heads
@@ -66,9 +66,13 @@ sides_with M family H test p q v x =
 abbrev pub group_with : LeafMeaning → FamilyContext → (List Bool → Heads) → Plain Bool → Code → Code → List Bool → LeafValue → LeafValue
 group_with M family H choice p q v x = if leaf_of choice v then passed_with M family H p v x else passed_with M family H q v x
 
+-- what a loop's body and then its step do to a leaf
+abbrev pub lap_with : LeafMeaning → FamilyContext → (List Bool → Heads) → Code → Code → List Bool → LeafValue → LeafValue
+lap_with M family H step body v x = passed_with M family H step v (passed_with M family H body v x)
+
 -- the head of a loop
-abbrev pub head_with : LeafMeaning → FamilyContext → (List Bool → Heads) → Place → Term → Code → List Bool → LeafValue → LeafValue
-head_with M family H place test body v x = H v place test (passed_with M family H body v) x
+abbrev pub head_with : LeafMeaning → FamilyContext → (List Bool → Heads) → Place → Term → Code → Code → List Bool → LeafValue → LeafValue
+head_with M family H place test step body v x = H v place test (lap_with M family H step body v) x
 
 -- a state whose leaves are of the kind
 pub record IsStart {L : Type 0} (value : L → LeafValue) (M : LeafMeaning) (family : FamilyContext) (forest : List (Plain L)) (start : Tree L) : Type 0 where

@@ -54,10 +54,15 @@ if_at M family test p q v x =
 abbrev pub group_at : LeafMeaning → FamilyContext → Plain Bool → Code → Code → List Bool → LeafValue → LeafValue
 group_at M family choice p q v x = if leaf_of choice v then after_at M family p v x else after_at M family q v x
 
+-- what a loop's body and then its step do to a leaf
+abbrev pub lap_at : LeafMeaning → FamilyContext → Code → Code → List Bool → LeafValue → LeafValue
+lap_at M family step body v x = after_at M family step v (after_at M family body v x)
+
 -- what comes in at the head of a loop of a family at a vector, where it is entered with d and the head has x
-abbrev pub turn_at : LeafMeaning → FamilyContext → Term → Code → List Bool → LeafValue → LeafValue → LeafValue
-turn_at M family test body v d x = loop_turn M family.options.now test (projected (truths_in family.choices.now v) body) d x
+abbrev pub turn_at : LeafMeaning → FamilyContext → Term → Code → Code → List Bool → LeafValue → LeafValue → LeafValue
+turn_at M family test step body v d x =
+    loop_turn M family.options.now test (projected (truths_in family.choices.now v) step) (projected (truths_in family.choices.now v) body) d x
 
 -- the final leaf of a loop of a family at a vector
-abbrev pub final_at : LeafMeaning → FamilyContext → Term → Code → List Bool → LeafValue → LeafValue
-final_at M family test body v d = final_leaf M family.options.now test (after_at M family body v) d
+abbrev pub final_at : LeafMeaning → FamilyContext → Term → Code → Code → List Bool → LeafValue → LeafValue
+final_at M family test step body v d = final_leaf M family.options.now test (lap_at M family step body v) d

@@ -85,10 +85,16 @@ fn after_stmt<L: Leaf, K: Ledger>(
         Stmt::Input { target, .. } => stepped(tables, family, &Step::Forget(*target), t),
         Stmt::Assert { test, .. } => stepped(tables, family, &Step::Assume(test, true), t),
         Stmt::If { test, yes, no, .. } => after_if(tables, finals, family, yes, no, test, t),
-        Stmt::While { place, test, body } => {
+        Stmt::While {
+            place,
+            test,
+            step,
+            body,
+        } => {
             let the_loop = Loop {
                 place: *place,
                 test,
+                step,
                 body,
             };
             let last = final_tree(tables, finals, family, &the_loop, t)?;
@@ -191,8 +197,9 @@ fn head_at<L: Leaf, K: Ledger>(
     ensures memory { OnOk result (Remembers L.value L.meaning family.now tables.new.leaves finals.new) }
 {
     let inside = stepped(tables, family, &Step::Assume(the_loop.test, true), &at)?;
-    let end = after_list(tables, finals, family, the_loop.body, &inside)?;
-    let next = joined(tables, family, t, &end)?;
+    let behind = after_list(tables, finals, family, the_loop.body, &inside)?;
+    let again = after_list(tables, finals, family, the_loop.step, &behind)?;
+    let next = joined(tables, family, t, &again)?;
     Ok(Head { at, next })
 }
 

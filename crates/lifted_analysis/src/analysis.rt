@@ -96,11 +96,7 @@ pub(crate) fn noted_in<L: Leaf, K: Ledger>(
     let code = family.program;
     let start = start_tree(tables, family, code.start.items(), &code.declared)?;
     let rule = rule_of(alloc, &start, family.lines, is_given)?;
-    let mut noted = Noted {
-        places: Vec::new(alloc),
-        alarms: Vec::new(alloc),
-        turns: Vec::new(alloc),
-    };
+    let mut noted = Noted::new(alloc);
     let mut finals = Finals {
         entries: IndexMap::new(alloc),
     };

@@ -7,9 +7,9 @@ ghost use Rattle.c_tree.specs.View.{term, front, code, whole};
 ghost use Rattle.c_tree.specs.Fit.{IsTermOf, IsCodeOf};
 ghost use Rattle.decision_tree.specs.View.{numbered, plain};
 ghost use Rattle.plain_analysis.specs.Stated.{IsPartOf, IsLoopOf};
-ghost use Rattle.lifted_analysis.specs.Entries.{entered_with, entered_sides, entered_group, entered_loop, HasEntered};
+ghost use Rattle.lifted_analysis.specs.Entries.{entered_with, entered_sides, entered_group, entered_lap, entered_loop, HasEntered};
 ghost use Rattle.lifted_analysis.specs.Heads.{head_over};
-ghost use Rattle.lifted_analysis.specs.Rules.{Knows, heads_in, passed_with, sides_with, group_with};
+ghost use Rattle.lifted_analysis.specs.Rules.{Knows, heads_in, passed_with, sides_with, group_with, lap_with};
 ghost use Rattle.lifted_analysis.specs.States.{IsFamily, IsState, IsLifted, IsTruth};
 
 use crate::family_context::FamilyContext;
@@ -111,10 +111,16 @@ fn enter_stmt<L: Leaf, K: Ledger>(
             enter(tables, family, noted, s, *place, t)?;
             enter_if(tables, finals, noted, family, rule, here, yes, no, test, t)
         }
-        Stmt::While { place, test, body } => {
+        Stmt::While {
+            place,
+            test,
+            step,
+            body,
+        } => {
             let the_loop = Loop {
                 place: *place,
                 test,
+                step,
                 body,
             };
             let head = enter_loop(tables, finals, noted, family, rule, here, s, &the_loop, t)?;
@@ -218,7 +224,8 @@ fn enter_group<L: Leaf, K: Ledger>(
     joined(tables, family, &after_yes, &after_no)
 }
 
-/// Enters a loop with the tree at its head, and its body once, from there. Answers the tree at its head.
+/// Enters a loop with the tree at its head, its body once, from there, and its step from behind the body. Answers the tree at
+/// its head.
 #[cycle(enter)]
 fn enter_loop<L: Leaf, K: Ledger>(
     tables: &mut Tables<L, K>,
@@ -243,7 +250,7 @@ fn enter_loop<L: Leaf, K: Ledger>(
     ensures entered { OnOk result (HasEntered L.value L.meaning family.now noted.old noted.new
         (entered_loop L.value L.meaning family.now
         (heads_in L.value L.meaning family.now rule.now (plain here.now)) (front s.now Done) the_loop.now.place (term the_loop.now.test.now)
-        (code the_loop.now.body.now)
+        (code the_loop.now.step.now) (code the_loop.now.body.now)
         (plain t.now))) }
     ensures memory { OnOk result
         (Knows L.value L.meaning family.now rule.now tables.new.leaves finals.new) }
@@ -253,6 +260,50 @@ fn enter_loop<L: Leaf, K: Ledger>(
     let head = head_tree(tables, finals, family, rule, here, the_loop, t)?;
     enter(tables, family, noted, s, the_loop.place, &head)?;
     let inside = stepped(tables, family, &Step::Assume(the_loop.test, true), &head)?;
+    let again = enter_lap(tables, finals, noted, family, rule, here, the_loop, &inside)?;
+    add_turn(noted, family, at, the_loop.place, t, &head, again)?;
+    Ok(head)
+}
+
+/// Enters the body of a loop, and then its step, which is noted before the body. Answers the tree behind the step.
+#[cycle(enter)]
+fn enter_lap<L: Leaf, K: Ledger>(
+    tables: &mut Tables<L, K>,
+    finals: &mut Finals<L>,
+    noted: &mut Noted<L>,
+    family: &FamilyContext,
+    rule: &Rule<L>,
+    here: &Tree<bool>,
+    the_loop: &Loop<'_>,
+    t: &Tree<L>,
+) -> Result<Tree<L>, NoMemory>
+    requires family { IsFamily family.now }
+    requires here { IsTruth family.now (numbered here.now) }
+    requires own { IsLoopOf family.now.variables (whole family.now.program.now) the_loop.now }
+    requires state { IsState L.value family.now tables.old.leaves (numbered t.now) }
+    requires memory { Knows L.value L.meaning family.now rule.now tables.old.leaves finals.old }
+    ensures lifted { IfOk result (λ r. IsLifted L.value family.now tables.old.leaves tables.new.leaves
+        (lap_with L.meaning family.now
+        (heads_in L.value L.meaning family.now rule.now (plain here.now)) (code the_loop.now.step.now) (code the_loop.now.body.now))
+        (plain t.now) (numbered r)) }
+    ensures entered { OnOk result (HasEntered L.value L.meaning family.now noted.old noted.new
+        (entered_lap L.value L.meaning family.now
+        (heads_in L.value L.meaning family.now rule.now (plain here.now)) (code the_loop.now.step.now) (code the_loop.now.body.now)
+        (plain t.now))) }
+    ensures memory { OnOk result
+        (Knows L.value L.meaning family.now rule.now tables.new.leaves finals.new) }
+{
+    let mut in_body = Noted::new(tables.alloc);
+    let behind = enter_list(
+        tables,
+        finals,
+        &mut in_body,
+        family,
+        rule,
+        here,
+        the_loop.body,
+        t,
+    )?;
     let again = enter_list(
         tables,
         finals,
@@ -260,9 +311,9 @@ fn enter_loop<L: Leaf, K: Ledger>(
         family,
         rule,
         here,
-        the_loop.body,
-        &inside,
+        the_loop.step,
+        &behind,
     )?;
-    add_turn(noted, family, at, the_loop.place, t, &head, again)?;
-    Ok(head)
+    noted.append(in_body)?;
+    Ok(again)
 }

@@ -19,10 +19,11 @@ use c_tree::{Kind, Stmt};
 use decision_tree::Tree;
 use fam_outer::{NoMemory, Place};
 use leaf_domain::{Leaf, may};
+use std::alloc::Global;
 use std::sync::ledger::Ledger;
 use tree_unify::map_in;
 
-/// A loop: the tree with which it is entered, that at its head, and that after its body.
+/// A loop: the tree with which it is entered, that at its head, and that after its body and then its step.
 #[derive(Drop)]
 pub(crate) struct TurnTree<L> {
     pub(crate) place: Place,
@@ -37,6 +38,33 @@ pub(crate) struct Noted<L> {
     pub(crate) places: Vec<PlaceTree<L>>,
     pub(crate) alarms: Vec<AlarmTree>,
     pub(crate) turns: Vec<TurnTree<L>>,
+}
+
+impl<L: Leaf> Noted<L> {
+    /// Nothing is noted.
+    pub(crate) fn new(alloc: Global) -> Noted<L>
+        ensures places { result.places.items ≡ [] }
+        ensures alarms { result.alarms.items ≡ [] }
+        ensures turns { result.turns.items ≡ [] }
+    {
+        Noted {
+            places: Vec::new(alloc),
+            alarms: Vec::new(alloc),
+            turns: Vec::new(alloc),
+        }
+    }
+
+    /// Adds what is noted of later statements.
+    pub(crate) fn append(&mut self, mut later: Noted<L>) -> Result<(), NoMemory>
+        ensures places { OnOk result (self.new.places.items ≡ self.old.places.items ++ later.places.items) }
+        ensures alarms { OnOk result (self.new.alarms.items ≡ self.old.alarms.items ++ later.alarms.items) }
+        ensures turns { OnOk result (self.new.turns.items ≡ self.old.turns.items ++ later.turns.items) }
+    {
+        self.places.append(&mut later.places)?;
+        self.alarms.append(&mut later.alarms)?;
+        self.turns.append(&mut later.turns)?;
+        Ok(())
+    }
 }
 
 /// Where a statement may stop with the kind.
@@ -146,7 +174,7 @@ pub(crate) fn enter<L: Leaf, K: Ledger>(
     add_alarm(tables, family, noted, s, place, Kind::Assertion, t)
 }
 
-/// Adds a loop before those in its body, which come behind it in the text.
+/// Adds a loop before those in its step and in its body, which come behind it in the text.
 pub(crate) fn add_turn<L: Leaf>(
     noted: &mut Noted<L>,
     family: &FamilyContext,

@@ -90,8 +90,14 @@ fn keep_stmt(s: &Stmt, kept: &mut Vec<i64>) -> Result<(), NoMemory>
             keep_list(yes, kept)?;
             keep_list(no, kept)
         }
-        Stmt::While { test, body, .. } => {
+        Stmt::While {
+            test,
+            step,
+            body,
+            ..
+        } => {
             keep_term(test, kept)?;
+            keep_list(step, kept)?;
             keep_list(body, kept)
         }
         Stmt::Block { body, .. } => keep_list(body, kept),

@@ -1,6 +1,7 @@
 -- Statements entered one after another.
 use Rattle.std.proofs.Common.{◌≡◌, List, [], ◌∷◌, ◌++◌, map, true, false, refl, ap, sym, subst, ◌∙◌, append_assoc, append-nil}
 use Rattle.std.specs.Prelude.{Result, Ok, Err, OnOk}
+use Rattle.std.proofs.lemmas.List.{map-append}
 use Rattle.fam_outer.specs.declared.faults.Place.{Place}
 use Rattle.std.specs.declared.vec.Vec.{Vec}
 use Rattle.std.specs.declared.alloc.Global.{Global}
@@ -14,7 +15,7 @@ use Rattle.leaf_domain.specs.Transfer.{assumed}
 use Rattle.plain_analysis.specs.declared.entries.Noted.{Noted}
 use Rattle.plain_analysis.specs.declared.options.Options.{Options}
 use Rattle.plain_analysis.specs.Loops.{final_leaf}
-use Rattle.plain_analysis.specs.Statements.{Entry, after_of, entries_of}
+use Rattle.plain_analysis.specs.Statements.{Entry, lap_of, entries_of, lap_entries, after_of}
 use Rattle.plain_analysis.specs.Entered.{place_and_leaf, leaves_in, alarms_in, HasEntered}
 use Rattle.plain_analysis.proofs.Listed.{front-If, front-While, front-Block}
 
@@ -38,6 +39,10 @@ pub on_ok_by : {A E : Type 0} (r : Result A E) (P Q : Type 0) → (P → Q) → 
 on_ok_by (Ok x) P Q f p = f p
 on_ok_by (Err e) P Q f p = tt
 
+pub on_ok_both : {A E : Type 0} (r : Result A E) (P Q R : Type 0) → (P → Q → R) → OnOk r P → OnOk r Q → OnOk r R
+on_ok_both (Ok x) P Q R f p q = f p q
+on_ok_both (Err e) P Q R f p q = tt
+
 module _ {L : Type 0} (value : L → LeafValue) (M : LeafMeaning) (o : Options) where
   pub none_entered : (a : Noted L) → HasEntered value M o a a []
   none_entered a = record { leaves = sym (append-nil (map (place_and_leaf value) a.places.items)); alarms = sym (append-nil a.alarms.items) }
@@ -51,6 +56,15 @@ module _ {L : Type 0} (value : L → LeafValue) (M : LeafMeaning) (o : Options) 
   pub entered_as : (a b : Noted L) (xs ys : List Entry) → xs ≡ ys → HasEntered value M o a b xs → HasEntered value M o a b ys
   entered_as a b xs ys e = subst (HasEntered value M o a b) e
 
+  -- what is noted apart, from nothing on, and then added
+  pub entered_apart : (none apart b c : Noted L) (xs : List Entry) → none.places.items ≡ [] → none.alarms.items ≡ [] → HasEntered value M o none apart xs
+      → c.places.items ≡ b.places.items ++ apart.places.items → c.alarms.items ≡ b.alarms.items ++ apart.alarms.items → HasEntered value M o b c xs
+  entered_apart none apart b c xs e f h i j =
+      let pairs = map (place_and_leaf value) in record {
+        leaves = ap pairs i ∙ (map-append (place_and_leaf value) b.places.items apart.places.items ∙ ap (λ l. pairs b.places.items ++ l) (h.leaves ∙ ap (λ l. pairs l ++ leaves_in xs) e));
+        alarms = j ∙ ap (λ l. b.alarms.items ++ l) (h.alarms ∙ ap (λ l. l ++ alarms_in M o.mode xs) f);
+      }
+
 module _ (M : LeafMeaning) (o : Options) where
   pub entries-If : (s : Stmt) (place : Place) (e : Expr) (p q : Vec Stmt Global) (v : LeafValue) → s ≡ variant.If place e p q
       → (record { place = place; statement = front s Done; leaf = v } ∷ []) ++ (entries_of M o (code p.items) (assumed M o.mode (term e) true v) ++ entries_of M o (code q.items) (assumed M o.mode (term e) false v))
@@ -59,12 +73,30 @@ module _ (M : LeafMeaning) (o : Options) where
       let f : front s Done ≡ If place (term e) (code p.items) (code q.items) Done = ap (λ s. front s Done) h ∙ front-If place e p q in
       rw f (ap (λ l. record { place = place; statement = If place (term e) (code p.items) (code q.items) Done; leaf = v } ∷ (entries_of M o (code p.items) (assumed M o.mode (term e) true v) ++ l)) (sym (append-nil (entries_of M o (code q.items) (assumed M o.mode (term e) false v)))))
 
-  pub entries-While : (s : Stmt) (place : Place) (e : Expr) (body : Vec Stmt Global) (v : LeafValue) → s ≡ variant.While place e body
-      → (record { place = place; statement = front s Done; leaf = final_leaf M o (term e) (after_of M o (code body.items)) v } ∷ []) ++ entries_of M o (code body.items) (assumed M o.mode (term e) true (final_leaf M o (term e) (after_of M o (code body.items)) v))
+  -- the final leaf of a loop whose step and body are these lists
+  abbrev pub final_at : Expr → List Stmt → List Stmt → LeafValue → LeafValue
+  final_at e step body v = final_leaf M o (term e) (lap_of M o (code step) (code body)) v
+
+  -- lists of the same statements have the same
+  pub final_same : (e : Expr) (step steps body bodies : List Stmt) (v : LeafValue) → step ≡ steps → body ≡ bodies → final_at e step body v ≡ final_at e steps bodies v
+  final_same e step steps body bodies v h k = ap (λ l. final_at e l body v) h ∙ ap (λ l. final_at e steps l v) k
+
+  pub lap_same : (e : Expr) (step steps body bodies : List Stmt) (x y : LeafValue) → step ≡ steps → body ≡ bodies → x ≡ y
+      → lap_entries M o (term e) (code step) (code body) x ≡ lap_entries M o (term e) (code steps) (code bodies) y
+  lap_same e step steps body bodies x y h k j =
+      ap (λ l. lap_entries M o (term e) (code l) (code body) x) h
+      ∙ (ap (λ l. lap_entries M o (term e) (code steps) (code l) x) k ∙ ap (lap_entries M o (term e) (code steps) (code bodies)) j)
+
+  pub entries-While : (s : Stmt) (place : Place) (e : Expr) (step body : Vec Stmt Global) (v : LeafValue) → s ≡ variant.While place e step body
+      → (record { place = place; statement = front s Done; leaf = final_at e step.items body.items v } ∷ [])
+      ++ lap_entries M o (term e) (code step.items) (code body.items) (final_at e step.items body.items v)
       ≡ entries_of M o (front s Done) v
-  entries-While s place e body v h =
-      let f : front s Done ≡ While place (term e) (code body.items) Done = ap (λ s. front s Done) h ∙ front-While place e body in
-      rw f (ap (λ l. record { place = place; statement = While place (term e) (code body.items) Done; leaf = final_leaf M o (term e) (after_of M o (code body.items)) v } ∷ l) (sym (append-nil (entries_of M o (code body.items) (assumed M o.mode (term e) true (final_leaf M o (term e) (after_of M o (code body.items)) v))))))
+  entries-While s place e step body v h =
+      let f : front s Done ≡ While place (term e) (code step.items) (code body.items) Done = ap (λ s. front s Done) h ∙ front-While place e step body in
+      let x = final_at e step.items body.items v in
+      let yes = assumed M o.mode (term e) true x in
+      rw f (ap (λ l. record { place = place; statement = While place (term e) (code step.items) (code body.items) Done; leaf = x } ∷ (entries_of M o (code step.items) (after_of M o (code body.items) yes) ++ l))
+      (sym (append-nil (entries_of M o (code body.items) yes))))
 
   pub entries-Block : (s : Stmt) (place : Place) (body : Vec Stmt Global) (v : LeafValue) → s ≡ variant.Block place body
       → (record { place = place; statement = front s Done; leaf = v } ∷ []) ++ entries_of M o (code body.items) v ≡ entries_of M o (front s Done) v

@@ -14,7 +14,7 @@ use Rattle.plain_analysis.specs.declared.task.Task.{Task}
 use Rattle.plain_analysis.specs.Finals.{same_entered, IsFinal, Remembers}
 use Rattle.plain_analysis.specs.Loops.{final_leaf}
 use Rattle.plain_analysis.specs.Stated.{IsLoopAt}
-use Rattle.plain_analysis.specs.Statements.{after_of}
+use Rattle.plain_analysis.specs.Statements.{lap_of}
 use Rattle.plain_analysis.proofs.StatedLemmas.{one_loop}
 use Rattle.plain_analysis.proofs.TableLemmas.{found_entry, inserted_entry}
 
@@ -62,13 +62,14 @@ module _ {L : Type 0} (eq : L → L → Bool) (exact : (a b : L) → eq a b ≡ 
 
 module _ {L : Type 0} (value : L → LeafValue) (M : LeafMeaning) (t : Task) where
   -- the final leaf of the loop that stands at the place
-  pub is_final : (place : Place) (leaf last : L) (test : Term) (body : Code) → IsLoopAt (whole t.program.now) place test body → (value last).variables ≡ (value leaf).variables
-      → value last ≡ final_leaf M t.options.now test (after_of M t.options.now body) (value leaf) → IsFinal value M t (record { place = place; leaf = leaf }) last
-  is_final place leaf last test body here same e = record {
+  pub is_final : (place : Place) (leaf last : L) (test : Term) (step body : Code) → IsLoopAt (whole t.program.now) place test step body → (value last).variables ≡ (value leaf).variables
+      → value last ≡ final_leaf M t.options.now test (lap_of M t.options.now step body) (value leaf) → IsFinal value M t (record { place = place; leaf = leaf }) last
+  is_final place leaf last test step body here same e = record {
     same = same;
-    final = λ f b h.
-        let one = one_loop (whole t.program.now) place test f body b here h in
-        e ∙ (ap (λ u. final_leaf M t.options.now u (after_of M t.options.now body) (value leaf)) one.0 ∙ ap (λ c. final_leaf M t.options.now f (after_of M t.options.now c) (value leaf)) one.1);
+    final = λ f s b h.
+        let one = one_loop (whole t.program.now) place test f step s body b here h in
+        e ∙ (ap (λ u. final_leaf M t.options.now u (lap_of M t.options.now step body) (value leaf)) one.0
+        ∙ (ap (λ c. final_leaf M t.options.now f (lap_of M t.options.now c body) (value leaf)) one.1 ∙ ap (λ c. final_leaf M t.options.now f (lap_of M t.options.now s c) (value leaf)) one.2));
   }
 
 -- a copy is over as many variables

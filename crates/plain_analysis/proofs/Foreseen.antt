@@ -19,7 +19,7 @@ use Rattle.leaf_domain.specs.Transfer.{assumed, assigned, forgotten}
 use Rattle.leaf_domain.specs.Stops.{may_at}
 use Rattle.leaf_domain.specs.Soundness.{Suits, TransferAnswers, TransferHolds}
 use Rattle.plain_analysis.specs.declared.alarm.Alarm.{Alarm}
-use Rattle.plain_analysis.specs.Statements.{Heads, Entry, passed, entries_by}
+use Rattle.plain_analysis.specs.Statements.{Heads, Entry, passed, lap, head_by, entries_by}
 use Rattle.plain_analysis.specs.Promises.{IsForeseen, AreHeld}
 use Rattle.leaf_domain.proofs.Answered.{answers_then, answers_self}
 use Rattle.plain_analysis.proofs.JoinLemmas.{join_answer}
@@ -145,12 +145,12 @@ module _ (M : LeafMeaning) (laws : LeafLaws M) (mode : Mode) (H : Heads) (A : Tr
       let w = M.join (passed M mode H p yes) (passed M mode H q no) in
       let j = join_answer M laws v (passed M mode H p yes) (passed M mode H q no) a b in
       answers_then v w _ j (passed_answers rest w j.valid (over_other rest v w j n.3) l.2 d.2)
-  passed_answers (While place e body rest) v h n p d =
-      let x = H place e (passed M mode H body) v in
+  passed_answers (While place e step body rest) v h n p d =
+      let x = head_by M mode H place e step body v in
       let i = d.0.answers in
       let w = assumed M mode e false x in
       let a = answers_then v x w i (A.assumed_answers e false x (suits_own e x i.valid (subst (λ m. IsTermOf m e) (sym i.same) n.0))) in
-      answers_then v w _ a (passed_answers rest w a.valid (over_other rest v w a n.2) p.1 d.2)
+      answers_then v w _ a (passed_answers rest w a.valid (over_other rest v w a n.3) p.2 d.3)
   passed_answers (Block place body rest) v h n p d =
       let w = passed M mode H body v in
       let a = passed_answers body v h n.0 p.0 d.0 in
@@ -162,67 +162,95 @@ module _ (M : LeafMeaning) (laws : LeafLaws M) (mode : Mode) (H : Heads) (A : Tr
   good_answers c v g = passed_answers c v g.valid g.names g.plain g.held
 
   -- what is known of a loop at its final leaf x
-  record GoodLoop (place : Place) (e : Term) (body : Code) (x : LeafValue) : Type 0 where
+  record GoodLoop (place : Place) (e : Term) (step body : Code) (x : LeafValue) : Type 0 where
     valid : M.valid x
-    test : IsTermOf x.variables e
-    names : IsCodeOf x.variables body
-    known : Known (record { place = place; statement = While place e body Done; leaf = x })
+    names : IsCodeOf x.variables (While place e step body Done)
+    known : Known (record { place = place; statement = While place e step body Done; leaf = x })
     inside : Good body (assumed M mode e true x)
-    again : (s : List ℤ) → M.holds (passed M mode H body (assumed M mode e true x)) s → M.holds x s
+    stepping : Good step (passed M mode H body (assumed M mode e true x))
+    again : (s : List ℤ) → M.holds (lap M mode H step body (assumed M mode e true x)) s → M.holds x s
 
   record Sound (n : ℕ) : Type 0 where
     -- statements before others
     statements : (c : Code) (v : LeafValue) (k : Code) → Good c v → Fine n k (passed M mode H c v) → Fine n (followed c k) v
     -- a loop at its final leaf, before others
-    loops : (place : Place) (e : Term) (body k : Code) (x : LeafValue) → GoodLoop place e body x → ((m : ℕ) → m < n → Fine m k (assumed M mode e false x)) → Fine n (While place e body k) x
+    loops : (place : Place) (e : Term) (step body k : Code) (x : LeafValue) → GoodLoop place e step body x → ((m : ℕ) → m < n → Fine m k (assumed M mode e false x)) → Fine n (While place e step body k) x
 
-  loop_cut : (place : Place) (e : Term) (body k : Code) (x : LeafValue) → GoodLoop place e body x → Cut (While place e body k) x
-  loop_cut place e body k x g = record { cut = λ s h. at_place (record { place = place; statement = While place e body Done; leaf = x }) s g.known h }
+  loop_cut : (place : Place) (e : Term) (step body k : Code) (x : LeafValue) → GoodLoop place e step body x → Cut (While place e step body k) x
+  loop_cut place e step body k x g = record { cut = λ s h. at_place (record { place = place; statement = While place e step body Done; leaf = x }) s g.known h }
 
-  loop_next : (n : ℕ) (place : Place) (e : Term) (body k : Code) (x : LeafValue) → Sound n → GoodLoop place e body x → ((m : ℕ) → m < suc n → Fine m k (assumed M mode e false x)) → Next n (While place e body k) x
-  loop_next n place e body k x S g f = record { next = one }
+  loop_next : (n : ℕ) (place : Place) (e : Term) (step body k : Code) (x : LeafValue) → Sound n → GoodLoop place e step body x → ((m : ℕ) → m < suc n → Fine m k (assumed M mode e false x)) → Next n (While place e step body k) x
+  loop_next n place e step body k x S g f = record { next = one }
     where
-      inside : Fine n (followed body (While place e body k)) (assumed M mode e true x)
-      inside = S.statements body (assumed M mode e true x) (While place e body k) g.inside
-          (finer n (While place e body k) x (passed M mode H body (assumed M mode e true x)) g.again (S.loops place e body k x g (λ m l. f m (omega arith))))
+      own : Suits M e x
+      own = suits_own e x g.valid g.names.0
 
-      one : (m : ℕ) (s : List ℤ) (taken : ℕ) → m ≤ n → M.holds x s → IsForeseen M at end alarms (onward (step_of mode inputs (While place e body k) s taken) s (steps_of mode inputs m))
+      -- the step, from behind the body, and the loop again
+      stepping : Fine n (followed step (While place e step body k)) (passed M mode H body (assumed M mode e true x))
+      stepping = S.statements step (passed M mode H body (assumed M mode e true x)) (While place e step body k) g.stepping
+          (finer n (While place e step body k) x (lap M mode H step body (assumed M mode e true x)) g.again (S.loops place e step body k x g (λ m l. f m (omega arith))))
+
+      inside : Fine n (followed body (followed step (While place e step body k))) (assumed M mode e true x)
+      inside = S.statements body (assumed M mode e true x) (followed step (While place e step body k)) g.inside stepping
+
+      one : (m : ℕ) (s : List ℤ) (taken : ℕ) → m ≤ n → M.holds x s → IsForeseen M at end alarms (onward (step_of mode inputs (While place e step body k) s taken) s (steps_of mode inputs m))
       one m s taken l h =
-          by_value (value_of e s mode) place (λ i. Moved (record { todo = if is_zero i then k else followed body (While place e body k); store = s; taken = taken })) s m
+          by_value (value_of e s mode) place (λ i. Moved (record { todo = if is_zero i then k else followed body (followed step (While place e step body k)); store = s; taken = taken })) s m
           (λ i w. by_test i w (is_zero i) refl)
-          (λ kind w. g.known.stops kind (T.may_holds (While place e body Done) x s inputs taken place kind g.valid (g.test, g.names, tt) h
-          (ap (λ r. with_value place r (λ i. Moved (record { todo = if is_zero i then Done else followed body (While place e body Done); store = s; taken = taken }))) w)))
+          (λ kind w. g.known.stops kind (T.may_holds (While place e step body Done) x s inputs taken place kind g.valid g.names h
+          (ap (λ r. with_value place r (λ i. Moved (record { todo = if is_zero i then Done else followed body (followed step (While place e step body Done)); store = s; taken = taken }))) w)))
         where
           by_test : (i : ℤ) → value_of e s mode ≡ Ok i → (b : Bool) → is_zero i ≡ b
-              → IsForeseen M at end alarms (steps_of mode inputs m (record { todo = if b then k else followed body (While place e body k); store = s; taken = taken }))
-          by_test i w true z = (f n (omega arith)).run m s taken l (T.assumed_holds e false x s i (suits_own e x g.valid g.test) h w (zero_from_test i z))
-          by_test i w false z = inside.run m s taken l (T.assumed_holds e true x s i (suits_own e x g.valid g.test) h w (nonzero_from_test i z))
+              → IsForeseen M at end alarms (steps_of mode inputs m (record { todo = if b then k else followed body (followed step (While place e step body k)); store = s; taken = taken }))
+          by_test i w true z = (f n (omega arith)).run m s taken l (T.assumed_holds e false x s i own h w (zero_from_test i z))
+          by_test i w false z = inside.run m s taken l (T.assumed_holds e true x s i own h w (nonzero_from_test i z))
 
   -- a loop is entered with its final leaf
-  good_loop : (place : Place) (e : Term) (body rest : Code) (v : LeafValue) → Good (While place e body rest) v → GoodLoop place e body (H place e (passed M mode H body) v)
-  good_loop place e body rest v g =
-      let x = H place e (passed M mode H body) v in
-      let i = g.held.0.answers in
-      let test : IsTermOf x.variables e = subst (λ m. IsTermOf m e) (sym i.same) g.names.0 in
-      let a = A.assumed_answers e true x (suits_own e x i.valid test) in
-      record {
-        valid = i.valid;
-        test = test;
-        names = subst (λ m. IsCodeOf m body) (sym i.same) g.names.1;
-        known = g.known.0;
-        inside = good_after body v (assumed M mode e true x) (answers_then v x (assumed M mode e true x) i a) g.names.1 g.plain.0
-            (all_first Known (entries_by M mode H body (assumed M mode e true x)) (entries_by M mode H rest (assumed M mode e false x)) g.known.1) g.held.1;
-        again = g.held.0.again;
-      }
+  module _ (place : Place) (e : Term) (step body rest : Code) (v : LeafValue) (g : Good (While place e step body rest) v) where
+    abbrev head : LeafValue
+    head = head_by M mode H place e step body v
 
-  after_loop : (place : Place) (e : Term) (body rest : Code) (v : LeafValue) → Good (While place e body rest) v → Good rest (assumed M mode e false (H place e (passed M mode H body) v))
-  after_loop place e body rest v g =
-      let x = H place e (passed M mode H body) v in
-      let i = g.held.0.answers in
-      let test : IsTermOf x.variables e = subst (λ m. IsTermOf m e) (sym i.same) g.names.0 in
-      let a = A.assumed_answers e false x (suits_own e x i.valid test) in
-      good_after rest v (assumed M mode e false x) (answers_then v x (assumed M mode e false x) i a) g.names.2 g.plain.1
-      (all_second Known (entries_by M mode H body (assumed M mode e true x)) (entries_by M mode H rest (assumed M mode e false x)) g.known.1) g.held.2
+    abbrev in_body : LeafValue
+    in_body = assumed M mode e true head
+
+    abbrev in_step : LeafValue
+    in_step = passed M mode H body in_body
+
+    abbrev out : LeafValue
+    out = assumed M mode e false head
+
+    head_like : IsLeafLike M v head
+    head_like = g.held.0.answers
+
+    over_head : Suits M e head
+    over_head = suits_own e head head_like.valid (subst (λ m. IsTermOf m e) (sym head_like.same) g.names.0)
+
+    in_loop : AllByRecursion Known (entries_by M mode H body in_body ++ entries_by M mode H rest out)
+    in_loop = all_second Known (entries_by M mode H step in_step) (entries_by M mode H body in_body ++ entries_by M mode H rest out) g.known.1
+
+    body_like : IsLeafLike M v in_body
+    body_like = answers_then v head in_body head_like (A.assumed_answers e true head over_head)
+
+    body_good : Good body in_body
+    body_good = good_after body v in_body body_like g.names.2 g.plain.1 (all_first Known (entries_by M mode H body in_body) (entries_by M mode H rest out) in_loop) g.held.2
+
+    step_good : Good step in_step
+    step_good = good_after step v in_step (answers_then v in_body in_step body_like (good_answers body in_body body_good)) g.names.1 g.plain.0
+        (all_first Known (entries_by M mode H step in_step) (entries_by M mode H body in_body ++ entries_by M mode H rest out) g.known.1) g.held.1
+
+    good_loop : GoodLoop place e step body head
+    good_loop = record {
+      valid = head_like.valid;
+      names = over_other (While place e step body Done) v head head_like (g.names.0, g.names.1, g.names.2, tt);
+      known = g.known.0;
+      inside = body_good;
+      stepping = step_good;
+      again = g.held.0.again;
+    }
+
+    after_loop : Good rest out
+    after_loop = good_after rest v out (answers_then v head out head_like (A.assumed_answers e false head over_head)) g.names.3 g.plain.2
+        (all_second Known (entries_by M mode H body in_body) (entries_by M mode H rest out) in_loop) g.held.3
 
   -- ---- the cuts of statements
 
@@ -232,16 +260,16 @@ module _ (M : LeafMeaning) (laws : LeafLaws M) (mode : Mode) (H : Heads) (A : Tr
   cut_of_statement (Input place x rest) v k g f = none_made _ v (record { cut = λ s h. at_place (record { place = place; statement = Input place x Done; leaf = v }) s g.known.0 h })
   cut_of_statement (Assert place e rest) v k g f = none_made _ v (record { cut = λ s h. at_place (record { place = place; statement = Assert place e Done; leaf = v }) s g.known.0 h })
   cut_of_statement (If place e p q rest) v k g f = none_made _ v (record { cut = λ s h. at_place (record { place = place; statement = If place e p q Done; leaf = v }) s g.known.0 h })
-  cut_of_statement (While place e body rest) v k g f =
-      finer 0 (While place e body (followed rest k)) (H place e (passed M mode H body) v) v g.held.0.entered
-      (none_made _ _ (loop_cut place e body (followed rest k) (H place e (passed M mode H body) v) (good_loop place e body rest v g)))
+  cut_of_statement (While place e step body rest) v k g f =
+      let x = head_by M mode H place e step body v in
+      finer 0 (While place e step body (followed rest k)) x v g.held.0.entered (none_made _ _ (loop_cut place e step body (followed rest k) x (good_loop place e step body rest v g)))
   cut_of_statement (Block place body rest) v k g f = none_made _ v (record { cut = λ s h. at_place (record { place = place; statement = Block place body Done; leaf = v }) s g.known.0 h })
   cut_of_statement (Skip place rest) v k g f = none_made _ v (record { cut = λ s h. at_place (record { place = place; statement = Skip place Done; leaf = v }) s g.known.0 h })
   cut_of_statement (Cond number p q rest) v k g f = absurd g.plain
 
   -- ---- the first steps of statements
 
-  module _ (n : ℕ) (S : Sound n) (L : (place : Place) (e : Term) (body k : Code) (x : LeafValue) → GoodLoop place e body x → ((m : ℕ) → m < suc n → Fine m k (assumed M mode e false x)) → Fine (suc n) (While place e body k) x) where
+  module _ (n : ℕ) (S : Sound n) (L : (place : Place) (e : Term) (step body k : Code) (x : LeafValue) → GoodLoop place e step body x → ((m : ℕ) → m < suc n → Fine m k (assumed M mode e false x)) → Fine (suc n) (While place e step body k) x) where
     -- the statements after the first
     behind : (c : Code) (v w : LeafValue) (k : Code) → IsLeafLike M v w → IsCodeOf v.variables c → IsPlain c → AllByRecursion Known (entries_by M mode H c w) → AreHeld M mode H c w → Fine (suc n) k (passed M mode H c w) → Fine n (followed c k) w
     behind c v w k a names plain known held f = S.statements c w k (good_after c v w a names plain known held) (less (suc n) n k (passed M mode H c w) (omega arith) f)
@@ -370,11 +398,11 @@ module _ (M : LeafMeaning) (laws : LeafLaws M) (mode : Mode) (H : Heads) (A : Tr
         made n (followed (Assert place e rest) k) v (record { cut = λ s h. at_place (record { place = place; statement = Assert place e Done; leaf = v }) s g.known.0 h }) (assert_next place e rest v k g f)
     step_of_statement (If place e p q rest) v k g f =
         made n (followed (If place e p q rest) k) v (record { cut = λ s h. at_place (record { place = place; statement = If place e p q Done; leaf = v }) s g.known.0 h }) (if_next place e p q rest v k g f)
-    step_of_statement (While place e body rest) v k g f =
-        let x = H place e (passed M mode H body) v in
-        let b = S.statements rest (assumed M mode e false x) k (after_loop place e body rest v g) (less (suc n) n k (passed M mode H rest (assumed M mode e false x)) (omega arith) f) in
-        finer (suc n) (While place e body (followed rest k)) x v g.held.0.entered
-        (L place e body (followed rest k) x (good_loop place e body rest v g) (λ m l. less n m (followed rest k) (assumed M mode e false x) (omega arith) b))
+    step_of_statement (While place e step body rest) v k g f =
+        let x = head_by M mode H place e step body v in
+        let b = S.statements rest (assumed M mode e false x) k (after_loop place e step body rest v g) (less (suc n) n k (passed M mode H rest (assumed M mode e false x)) (omega arith) f) in
+        finer (suc n) (While place e step body (followed rest k)) x v g.held.0.entered
+        (L place e step body (followed rest k) x (good_loop place e step body rest v g) (λ m l. less n m (followed rest k) (assumed M mode e false x) (omega arith) b))
     step_of_statement (Block place body rest) v k g f =
         made n (followed (Block place body rest) k) v (record { cut = λ s h. at_place (record { place = place; statement = Block place body Done; leaf = v }) s g.known.0 h }) (block_next place body rest v k g f)
     step_of_statement (Skip place rest) v k g f =
@@ -384,12 +412,12 @@ module _ (M : LeafMeaning) (laws : LeafLaws M) (mode : Mode) (H : Heads) (A : Tr
   sound : (n : ℕ) → Sound n
   sound zero = record {
     statements = cut_of_statement;
-    loops = λ place e body k x g f. none_made (While place e body k) x (loop_cut place e body k x g);
+    loops = λ place e step body k x g f. none_made (While place e step body k) x (loop_cut place e step body k x g);
   }
   sound (suc n) =
       let S = sound n in
-      let L = λ (place : Place) (e : Term) (body k : Code) (x : LeafValue) (g : GoodLoop place e body x) (f : (m : ℕ) → m < suc n → Fine m k (assumed M mode e false x)).
-      made n (While place e body k) x (loop_cut place e body k x g) (loop_next n place e body k x S g f) in
+      let L = λ (place : Place) (e : Term) (step body k : Code) (x : LeafValue) (g : GoodLoop place e step body x) (f : (m : ℕ) → m < suc n → Fine m k (assumed M mode e false x)).
+      made n (While place e step body k) x (loop_cut place e step body k x g) (loop_next n place e step body k x S g f) in
       record { statements = step_of_statement n S L; loops = L }
 
   -- nothing is left

@@ -1,4 +1,4 @@
--- The heads of loops in an analysis hold what enters them and what comes from their bodies.
+-- The heads of loops in an analysis hold what enters them and what comes from their laps.
 use Rattle.std.proofs.Common.{◌≡◌, length, true, false, subst, sym}
 use Rattle.c_tree.specs.Tree.{Term, Code, Done, Assign, Input, Assert, If, While, Block, Skip, Cond, Whole}
 use Rattle.c_tree.specs.Whole.{IsProgram, IsPlainProgram}
@@ -9,7 +9,7 @@ use Rattle.leaf_domain.specs.Soundness.{Suits, TransferAnswers, TransferHolds}
 use Rattle.leaf_domain.proofs.Answered.{answers_then}
 use Rattle.plain_analysis.specs.declared.options.Options.{Options}
 use Rattle.plain_analysis.specs.Loops.{final_leaf}
-use Rattle.plain_analysis.specs.Statements.{after_of, final_heads}
+use Rattle.plain_analysis.specs.Statements.{after_of, lap_of, final_heads}
 use Rattle.plain_analysis.specs.Promises.{AreHeld, RunsForeseen}
 use Rattle.plain_analysis.proofs.JoinLemmas.{join_answer}
 use Rattle.plain_analysis.proofs.Promised.{runs}
@@ -47,18 +47,20 @@ module _ (M : LeafMeaning) (laws : LeafLaws M) (o : Options) (A : TransferAnswer
       let w = M.join (after_of M o p yes) (after_of M o q no) in
       let j = join_answer M laws v (after_of M o p yes) (after_of M o q no) (after p v yes t n.1) (after q v no f n.2) in
       (final_heads_hold p yes t.valid (over p v yes t n.1), final_heads_hold q no f.valid (over q v no f n.2), final_heads_hold rest w j.valid (over rest v w j n.3))
-  final_heads_hold (While place e body rest) v h n =
-      let x = final_leaf M o e (after_of M o body) v in
-      let i = final_of_code M laws o A e body v h n.0 n.1 in
-      let l = loop_holds M laws o A e body v h n.0 n.1 in
+  final_heads_hold (While place e step body rest) v h n =
+      let x = final_leaf M o e (lap_of M o step body) v in
+      let i = final_of_code M laws o A e step body v h n.0 n.1 n.2 in
+      let l = loop_holds M laws o A e step body v h n.0 n.1 n.2 in
       let term : IsTermOf x.variables e = subst (λ m. IsTermOf m e) (sym i.same) n.0 in
       let yes = assumed M o.mode e true x in
       let no = assumed M o.mode e false x in
       let t = answers_then v x yes i (A.assumed_answers e true x (own e x i.valid term)) in
-      let f = answers_then v x no i (A.assumed_answers e false x (own e x i.valid term)) in (
+      let f = answers_then v x no i (A.assumed_answers e false x (own e x i.valid term)) in
+      let b = after body v yes t n.2 in (
         record { answers = i; entered = l.entered; again = l.again },
-        final_heads_hold body yes t.valid (over body v yes t n.1),
-        final_heads_hold rest no f.valid (over rest v no f n.2),
+        final_heads_hold step (after_of M o body yes) b.valid (over step v (after_of M o body yes) b n.1),
+        final_heads_hold body yes t.valid (over body v yes t n.2),
+        final_heads_hold rest no f.valid (over rest v no f n.3),
       )
   final_heads_hold (Block place body rest) v h n =
       let w = after_of M o body v in

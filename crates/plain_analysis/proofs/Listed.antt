@@ -15,7 +15,7 @@ use Rattle.leaf_domain.specs.Leaves.{LeafValue, LeafMeaning}
 use Rattle.leaf_domain.specs.Transfer.{assumed, assigned, forgotten}
 use Rattle.plain_analysis.specs.declared.options.Options.{Options}
 use Rattle.plain_analysis.specs.Loops.{final_leaf}
-use Rattle.plain_analysis.specs.Statements.{Entry, after_of, entries_of}
+use Rattle.plain_analysis.specs.Statements.{Entry, after_of, lap_of, entries_of}
 
 module _ (M : LeafMeaning) (o : Options) where
   pub after_of-followed : (a b : Code) (v : LeafValue) → after_of M o (followed a b) v ≡ after_of M o b (after_of M o a v)
@@ -25,7 +25,7 @@ module _ (M : LeafMeaning) (o : Options) where
   after_of-followed (Assert place e rest) b v = after_of-followed rest b (assumed M o.mode e true v)
   after_of-followed (If place e p q rest) b v =
       after_of-followed rest b (M.join (after_of M o p (assumed M o.mode e true v)) (after_of M o q (assumed M o.mode e false v)))
-  after_of-followed (While place e body rest) b v = after_of-followed rest b (assumed M o.mode e false (final_leaf M o e (after_of M o body) v))
+  after_of-followed (While place e step body rest) b v = after_of-followed rest b (assumed M o.mode e false (final_leaf M o e (lap_of M o step body) v))
   after_of-followed (Block place body rest) b v = after_of-followed rest b (after_of M o body v)
   after_of-followed (Skip place rest) b v = after_of-followed rest b v
   after_of-followed (Cond number p q rest) b v = after_of-followed rest b v
@@ -48,9 +48,10 @@ module _ (M : LeafMeaning) (o : Options) where
   entries_of-followed (If place e p q rest) b v =
       three_more (entries_of M o p (assumed M o.mode e true v)) (entries_of M o q (assumed M o.mode e false v)) _ _ _ _
       (entries_of-followed rest b (M.join (after_of M o p (assumed M o.mode e true v)) (after_of M o q (assumed M o.mode e false v))))
-  entries_of-followed (While place e body rest) b v =
-      two_more (entries_of M o body (assumed M o.mode e true (final_leaf M o e (after_of M o body) v))) _ _ _ _
-      (entries_of-followed rest b (assumed M o.mode e false (final_leaf M o e (after_of M o body) v)))
+  entries_of-followed (While place e step body rest) b v =
+      let x = final_leaf M o e (lap_of M o step body) v in
+      three_more (entries_of M o step (after_of M o body (assumed M o.mode e true x))) (entries_of M o body (assumed M o.mode e true x)) _ _ _ _
+      (entries_of-followed rest b (assumed M o.mode e false x))
   entries_of-followed (Block place body rest) b v = two_more (entries_of M o body v) _ _ _ _ (entries_of-followed rest b (after_of M o body v))
   entries_of-followed (Skip place rest) b v =
       ap (λ l. record { place = place; statement = Skip place Done; leaf = v } ∷ l) (entries_of-followed rest b v)
@@ -71,8 +72,8 @@ IsCodeOf-at count = code-at (IsCodeOf count) (IsCodeOf-front count)
 pub front-If : (place : Place) (e : Expr) (p q : Vec Stmt Global) → front (variant.If place e p q) Done ≡ If place (term e) (code p.items) (code q.items) Done
 front-If place e p q = rw (front_out, outs-If) refl
 
-pub front-While : (place : Place) (e : Expr) (body : Vec Stmt Global) → front (variant.While place e body) Done ≡ While place (term e) (code body.items) Done
-front-While place e body = rw (front_out, outs-While) refl
+pub front-While : (place : Place) (e : Expr) (step body : Vec Stmt Global) → front (variant.While place e step body) Done ≡ While place (term e) (code step.items) (code body.items) Done
+front-While place e step body = rw (front_out, outs-While) refl
 
 pub front-Block : (place : Place) (body : Vec Stmt Global) → front (variant.Block place body) Done ≡ Block place (code body.items) Done
 front-Block place body = rw (front_out, outs-Block) refl
@@ -85,10 +86,11 @@ fit_If count s place e p q h k =
     let w : IsCodeOf count (If place (term e) (code p.items) (code q.items) Done) = subst (IsCodeOf count) (ap (λ s. front s Done) h ∙ front-If place e p q) k in
     (w.0, w.1, w.2)
 
-pub fit_While : (count : ℕ) (s : Stmt) (place : Place) (e : Expr) (body : Vec Stmt Global) → s ≡ variant.While place e body → IsCodeOf count (front s Done) → IsTermOf count (term e) × IsCodeOf count (code body.items)
-fit_While count s place e body h k =
-    let w : IsCodeOf count (While place (term e) (code body.items) Done) = subst (IsCodeOf count) (ap (λ s. front s Done) h ∙ front-While place e body) k in
-    (w.0, w.1)
+pub fit_While : (count : ℕ) (s : Stmt) (place : Place) (e : Expr) (step body : Vec Stmt Global) → s ≡ variant.While place e step body → IsCodeOf count (front s Done)
+    → IsTermOf count (term e) × IsCodeOf count (code step.items) × IsCodeOf count (code body.items)
+fit_While count s place e step body h k =
+    let w : IsCodeOf count (While place (term e) (code step.items) (code body.items) Done) = subst (IsCodeOf count) (ap (λ s. front s Done) h ∙ front-While place e step body) k in
+    (w.0, w.1, w.2)
 
 pub fit_Block : (count : ℕ) (s : Stmt) (place : Place) (body : Vec Stmt Global) → s ≡ variant.Block place body → IsCodeOf count (front s Done) → IsCodeOf count (code body.items)
 fit_Block count s place body h k =

@@ -14,7 +14,7 @@ use Rattle.c_tree.specs.Whole.{IsBeforeAll, IsRising}
 use Rattle.leaf_domain.specs.Leaves.{LeafValue, LeafMeaning, nothing_of}
 use Rattle.leaf_domain.specs.Transfer.{assumed, assigned, forgotten}
 use Rattle.leaf_domain.specs.Stops.{may_at}
-use Rattle.plain_analysis.specs.Statements.{Heads, Entry, passed, entries_by}
+use Rattle.plain_analysis.specs.Statements.{Heads, Entry, passed, head_by, entries_by}
 use Rattle.plain_analysis.specs.Places.{is_same_place, entry_in, leaf_or, at_by, may_stop, alarm_by, alarms_at, alarms_over, alarms_by}
 use Rattle.plain_analysis.specs.Entered.{alarms_in}
 
@@ -59,8 +59,9 @@ none_at_end (e ∷ es) end h = ap (λ b. if b then Some e else entry_in es end) 
 
 -- ---- the entries of a plain list have its places
 
-two : (place : Place) (xs ys zs us : List Place) → xs ≡ ys → zs ≡ us → place ∷ (xs ++ zs) ≡ place ∷ (ys ++ us)
-two place xs ys zs us e f = ap (λ l. place ∷ (l ++ zs)) e ∙ ap (λ l. place ∷ (ys ++ l)) f
+-- two lists of entries one after the other, at their places
+both : (xs ys : List Entry) (ps qs : List Place) → map place_of xs ≡ ps → map place_of ys ≡ qs → map place_of (xs ++ ys) ≡ ps ++ qs
+both xs ys ps qs e f = map-append place_of xs ys ∙ (ap (λ l. l ++ map place_of ys) e ∙ ap (λ l. ps ++ l) f)
 
 module _ (M : LeafMeaning) (mode : Mode) (H : Heads) where
   pub places_of_entries : (c : Code) (v : LeafValue) → IsPlain c → map place_of (entries_by M mode H c v) ≡ places_of c
@@ -73,18 +74,18 @@ module _ (M : LeafMeaning) (mode : Mode) (H : Heads) where
       let t = assumed M mode e true v in
       let f = assumed M mode e false v in
       let j = M.join (passed M mode H p t) (passed M mode H q f) in
-      ap (λ l. place ∷ l) (map-append place_of (entries_by M mode H p t) (entries_by M mode H q f ++ entries_by M mode H rest j))
-      ∙ (ap (λ l. place ∷ (map place_of (entries_by M mode H p t) ++ l)) (map-append place_of (entries_by M mode H q f) (entries_by M mode H rest j))
-      ∙ (ap (λ l. place ∷ (l ++ (map place_of (entries_by M mode H q f) ++ map place_of (entries_by M mode H rest j)))) (places_of_entries p t h.0)
-      ∙ (ap (λ l. place ∷ (places_of p ++ (l ++ map place_of (entries_by M mode H rest j)))) (places_of_entries q f h.1)
-      ∙ ap (λ l. place ∷ (places_of p ++ (places_of q ++ l))) (places_of_entries rest j h.2))))
-  places_of_entries (While place e body rest) v h =
-      let x = H place e (passed M mode H body) v in
-      ap (λ l. place ∷ l) (map-append place_of (entries_by M mode H body (assumed M mode e true x)) (entries_by M mode H rest (assumed M mode e false x)))
-      ∙ two place _ _ _ _ (places_of_entries body (assumed M mode e true x) h.0) (places_of_entries rest (assumed M mode e false x) h.1)
+      ap (λ l. place ∷ l) (both (entries_by M mode H p t) (entries_by M mode H q f ++ entries_by M mode H rest j) _ _ (places_of_entries p t h.0)
+      (both (entries_by M mode H q f) (entries_by M mode H rest j) _ _ (places_of_entries q f h.1) (places_of_entries rest j h.2)))
+  places_of_entries (While place e step body rest) v h =
+      let x = head_by M mode H place e step body v in
+      let yes = assumed M mode e true x in
+      let no = assumed M mode e false x in
+      let w = passed M mode H body yes in
+      ap (λ l. place ∷ l) (both (entries_by M mode H step w) (entries_by M mode H body yes ++ entries_by M mode H rest no) _ _ (places_of_entries step w h.0)
+      (both (entries_by M mode H body yes) (entries_by M mode H rest no) _ _ (places_of_entries body yes h.1) (places_of_entries rest no h.2)))
   places_of_entries (Block place body rest) v h =
-      ap (λ l. place ∷ l) (map-append place_of (entries_by M mode H body v) (entries_by M mode H rest (passed M mode H body v)))
-      ∙ two place _ _ _ _ (places_of_entries body v h.0) (places_of_entries rest (passed M mode H body v) h.1)
+      let w = passed M mode H body v in
+      ap (λ l. place ∷ l) (both (entries_by M mode H body v) (entries_by M mode H rest w) _ _ (places_of_entries body v h.0) (places_of_entries rest w h.1))
   places_of_entries (Skip place rest) v h = ap (λ l. place ∷ l) (places_of_entries rest v h)
   places_of_entries (Cond number p q rest) v h = absurd h
 

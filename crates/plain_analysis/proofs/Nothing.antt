@@ -12,7 +12,7 @@ use Rattle.leaf_domain.specs.Soundness.{TransferAnswers}
 use Rattle.leaf_domain.specs.Transfer.{assumed, assigned, operation_set, form_set, form_where, fits_term, operation_of_term, range_of_term}
 use Rattle.plain_analysis.specs.declared.options.Options.{Options}
 use Rattle.plain_analysis.specs.Loops.{turn_of, round_count, widened_leaf, narrowing_of, narrowings_of, final_leaf}
-use Rattle.plain_analysis.specs.Statements.{after_of}
+use Rattle.plain_analysis.specs.Statements.{after_of, lap_of}
 use Rattle.plain_analysis.proofs.Rounds.{rounds_stay, narrowings_stay}
 
 same_content : (m : ℕ) (c : Option (List ℤ)) → is_none c ≡ true → (let v : LeafValue = record { variables = m; content = c } in v) ≡ nothing_of m
@@ -57,10 +57,10 @@ module _ (M : LeafMeaning) (laws : LeafLaws M) (o : Options) (answers : Transfer
   either_way true c e = e
   either_way false c e = refl
 
-  pub loop_nothing : (test : Term) (body : LeafValue → LeafValue) → body (nothing_of n) ≡ nothing_of n → final_leaf M o test body (nothing_of n) ≡ nothing_of n
-  loop_nothing test body same =
-      let G : LeafValue → LeafValue = turn_of M o.mode test body (nothing_of n) in
-      let turned : G (nothing_of n) ≡ nothing_of n = joined_nothing (nothing_of n) (body (assumed M o.mode test true (nothing_of n))) refl (ap body (assumed_nothing test true) ∙ same) in
+  pub loop_nothing : (test : Term) (lap : LeafValue → LeafValue) → lap (nothing_of n) ≡ nothing_of n → final_leaf M o test lap (nothing_of n) ≡ nothing_of n
+  loop_nothing test lap same =
+      let G : LeafValue → LeafValue = turn_of M o.mode test lap (nothing_of n) in
+      let turned : G (nothing_of n) ≡ nothing_of n = joined_nothing (nothing_of n) (lap (assumed M o.mode test true (nothing_of n))) refl (ap lap (assumed_nothing test true) ∙ same) in
       let below : M.leq (G (nothing_of n)) (nothing_of n) ≡ true = ap (λ v. M.leq v (nothing_of n)) turned ∙ laws.nothing_leq n (nothing_of n) in
       let wide : widened_leaf M o.thresholds o.delay G (nothing_of n) ≡ nothing_of n = rounds_stay M o.thresholds o.delay G (round_count M o.thresholds o.delay n) 0 (nothing_of n) below in
       let stays : narrowing_of M o.thresholds G (nothing_of n) ≡ nothing_of n = either_way (M.leq (G (M.narrow o.thresholds (nothing_of n) (G (nothing_of n)))) (M.narrow o.thresholds (nothing_of n) (G (nothing_of n)))) (M.narrow o.thresholds (nothing_of n) (G (nothing_of n))) (narrowed_nothing (G (nothing_of n)) turned) in
@@ -75,12 +75,15 @@ module _ (M : LeafMeaning) (laws : LeafLaws M) (o : Options) (answers : Transfer
       ap (after_of M o rest) (joined_nothing (after_of M o p (assumed M o.mode e true (nothing_of n))) (after_of M o q (assumed M o.mode e false (nothing_of n)))
       (ap (after_of M o p) (assumed_nothing e true) ∙ after_nothing p) (ap (after_of M o q) (assumed_nothing e false) ∙ after_nothing q))
       ∙ after_nothing rest
-  after_nothing (While place e body rest) =
-      ap (λ v. after_of M o rest (assumed M o.mode e false v)) (loop_nothing e (after_of M o body) (after_nothing body))
+  after_nothing (While place e step body rest) =
+      ap (λ v. after_of M o rest (assumed M o.mode e false v)) (loop_nothing e (lap_of M o step body) (ap (after_of M o step) (after_nothing body) ∙ after_nothing step))
       ∙ (ap (after_of M o rest) (assumed_nothing e false) ∙ after_nothing rest)
   after_nothing (Block place body rest) = ap (after_of M o rest) (after_nothing body) ∙ after_nothing rest
   after_nothing (Skip place rest) = after_nothing rest
   after_nothing (Cond number p q rest) = after_nothing rest
+
+  pub lap_nothing : (step body : Code) → lap_of M o step body (nothing_of n) ≡ nothing_of n
+  lap_nothing step body = ap (after_of M o step) (after_nothing body) ∙ after_nothing step
 
 -- a leaf that is Nothing stays as it is
 pub after_stays : (M : LeafMeaning) → LeafLaws M → (o : Options) → TransferAnswers M o.mode → (v : LeafValue) → v.variables ≤ 48 → is_nothing_of v ≡ true → (c : Code) → after_of M o c v ≡ v
@@ -88,8 +91,8 @@ after_stays M laws o answers v few is c =
     let e : v ≡ nothing_of v.variables = nothing_value v v.variables is refl in
     ap (after_of M o c) e ∙ (after_nothing M laws o answers v.variables few c ∙ sym e)
 
-pub loop_stays : (M : LeafMeaning) → LeafLaws M → (o : Options) → TransferAnswers M o.mode → (v : LeafValue) → v.variables ≤ 48 → is_nothing_of v ≡ true → (test : Term) (c : Code)
-    → final_leaf M o test (after_of M o c) v ≡ v
-loop_stays M laws o answers v few is test c =
+pub loop_stays : (M : LeafMeaning) → LeafLaws M → (o : Options) → TransferAnswers M o.mode → (v : LeafValue) → v.variables ≤ 48 → is_nothing_of v ≡ true → (test : Term) (step body : Code)
+    → final_leaf M o test (lap_of M o step body) v ≡ v
+loop_stays M laws o answers v few is test step body =
     let e : v ≡ nothing_of v.variables = nothing_value v v.variables is refl in
-    ap (final_leaf M o test (after_of M o c)) e ∙ (loop_nothing M laws o answers v.variables few test (after_of M o c) (after_nothing M laws o answers v.variables few c) ∙ sym e)
+    ap (final_leaf M o test (lap_of M o step body)) e ∙ (loop_nothing M laws o answers v.variables few test (lap_of M o step body) (lap_nothing M laws o answers v.variables few step body) ∙ sym e)

@@ -7,7 +7,7 @@ use Rattle.leaf_domain.specs.Transfer.{assumed, assigned, forgotten}
 use Rattle.leaf_domain.specs.Soundness.{Suits, TransferAnswers}
 use Rattle.plain_analysis.specs.declared.options.Options.{Options}
 use Rattle.plain_analysis.specs.Loops.{turn_of, round_of, rounds_of, round_count, narrowing_of, narrowings_of, widened_leaf, final_leaf}
-use Rattle.plain_analysis.specs.Statements.{after_of}
+use Rattle.plain_analysis.specs.Statements.{after_of, lap_of}
 use Rattle.plain_analysis.specs.Promises.{LoopsSettle, FinalsAreInductive}
 use Rattle.leaf_domain.proofs.Answered.{answers_self, answers_then}
 use Rattle.leaf_domain.proofs.AtNothing.{nothing_is}
@@ -96,6 +96,10 @@ module _ (M : LeafMeaning) (laws : LeafLaws M) (o : Options) (A : TransferAnswer
       let i = final_answers test f x h t k in
       answers_then x _ _ i (A.assumed_answers test false (final_leaf M o test f x) (suits test (final_leaf M o test f x) x.variables i.valid i.same t))
 
+  then_keeps : (n : ℕ) (f g : LeafValue → LeafValue) → Keeps n f → Keeps n g → Keeps n (λ u. g (f u))
+  unfolding Keeps
+  then_keeps n f g h k x i c = let a = h x i c in answers_then x (f x) (g (f x)) a (k (f x) a.valid (a.same ∙ c))
+
   pub after_keeps : (code : Code) (n : ℕ) → IsCodeOf n code → Keeps n (after_of M o code)
   unfolding Keeps
   after_keeps Done n over x h c = answers_self x h
@@ -115,15 +119,19 @@ module _ (M : LeafMeaning) (laws : LeafLaws M) (o : Options) (A : TransferAnswer
       let b = answers_then x _ _ f (after_keeps q n over.2 (assumed M o.mode e false x) f.valid (f.same ∙ c)) in
       let j = join_answer M laws x (after_of M o p (assumed M o.mode e true x)) (after_of M o q (assumed M o.mode e false x)) a b in
       answers_then x _ _ j (after_keeps rest n over.3 (M.join (after_of M o p (assumed M o.mode e true x)) (after_of M o q (assumed M o.mode e false x))) j.valid (j.same ∙ c))
-  after_keeps (While place e body rest) n over x h c =
-      let k : Keeps x.variables (after_of M o body) = subst (λ m. Keeps m (after_of M o body)) (sym c) (after_keeps body n over.1) in
-      let v = loop_answers e (after_of M o body) x h (subst (λ m. IsTermOf m e) (sym c) over.0) k in
-      answers_then x _ _ v (after_keeps rest n over.2 (assumed M o.mode e false (final_leaf M o e (after_of M o body) x)) v.valid (v.same ∙ c))
+  after_keeps (While place e step body rest) n over x h c =
+      let l : Keeps n (lap_of M o step body) = then_keeps n (after_of M o body) (after_of M o step) (after_keeps body n over.2) (after_keeps step n over.1) in
+      let k : Keeps x.variables (lap_of M o step body) = subst (λ m. Keeps m (lap_of M o step body)) (sym c) l in
+      let v = loop_answers e (lap_of M o step body) x h (subst (λ m. IsTermOf m e) (sym c) over.0) k in
+      answers_then x _ _ v (after_keeps rest n over.3 (assumed M o.mode e false (final_leaf M o e (lap_of M o step body) x)) v.valid (v.same ∙ c))
   after_keeps (Block place body rest) n over x h c =
       let a = after_keeps body n over.0 x h c in
       answers_then x _ _ a (after_keeps rest n over.1 (after_of M o body x) a.valid (a.same ∙ c))
   after_keeps (Skip place rest) n over x h c = after_keeps rest n over x h c
   after_keeps (Cond number p q rest) n over x h c = after_keeps rest n over.2 x h c
+
+  pub lap_keeps : (step body : Code) (n : ℕ) → IsCodeOf n step → IsCodeOf n body → Keeps n (lap_of M o step body)
+  lap_keeps step body n s b = then_keeps n (after_of M o body) (after_of M o step) (after_keeps body n b) (after_keeps step n s)
 
   turn_nothing : (test : Term) (f : LeafValue → LeafValue) (d : LeafValue) → is_nothing_of d ≡ true → d.variables ≡ (f d).variables → is_nothing_of (f d) ≡ true → is_nothing_of (turn_of M o.mode test f d d) ≡ true
   turn_nothing test f d e c k = ap (λ v. is_nothing_of (M.join d (f v))) (A.assumed_of_nothing test true d e) ∙ join_nothings d (f d) c e k
@@ -165,24 +173,32 @@ module _ (M : LeafMeaning) (laws : LeafLaws M) (o : Options) (A : TransferAnswer
       (join_nothings (after_of M o p (assumed M o.mode e true x)) (after_of M o q (assumed M o.mode e false x)) (a.same ∙ sym b.same)
       (after_nothing p n over.1 (assumed M o.mode e true x) t.valid (t.same ∙ c) (assumed_nothing e true x z))
       (after_nothing q n over.2 (assumed M o.mode e false x) f.valid (f.same ∙ c) (assumed_nothing e false x z)))
-  after_nothing (While place e body rest) n over x h c z =
-      let k : Keeps x.variables (after_of M o body) = subst (λ m. Keeps m (after_of M o body)) (sym c) (after_keeps body n over.1) in
-      let v = loop_answers e (after_of M o body) x h (subst (λ m. IsTermOf m e) (sym c) over.0) k in
-      after_nothing rest n over.2 (assumed M o.mode e false (final_leaf M o e (after_of M o body) x)) v.valid (v.same ∙ c)
-      (loop_nothing e (after_of M o body) x h k z (after_nothing body n over.1 x h c z))
+  after_nothing (While place e step body rest) n over x h c z =
+      let k : Keeps x.variables (lap_of M o step body) = subst (λ m. Keeps m (lap_of M o step body)) (sym c) (lap_keeps step body n over.1 over.2) in
+      let v = loop_answers e (lap_of M o step body) x h (subst (λ m. IsTermOf m e) (sym c) over.0) k in
+      let a = after_keeps body n over.2 x h c in
+      after_nothing rest n over.3 (assumed M o.mode e false (final_leaf M o e (lap_of M o step body) x)) v.valid (v.same ∙ c)
+      (loop_nothing e (lap_of M o step body) x h k z (after_nothing step n over.1 (after_of M o body x) a.valid (a.same ∙ c) (after_nothing body n over.2 x h c z)))
   after_nothing (Block place body rest) n over x h c z =
       let a = after_keeps body n over.0 x h c in
       after_nothing rest n over.1 (after_of M o body x) a.valid (a.same ∙ c) (after_nothing body n over.0 x h c z)
   after_nothing (Skip place rest) n over x h c z = after_nothing rest n over x h c z
   after_nothing (Cond number p q rest) n over x h c z = after_nothing rest n over.2 x h c z
 
+  lap_nothing : (step body : Code) (n : ℕ) → IsCodeOf n step → IsCodeOf n body → (x : LeafValue) → M.valid x → x.variables ≡ n → is_nothing_of x ≡ true → is_nothing_of (lap_of M o step body x) ≡ true
+  unfolding Keeps
+  lap_nothing step body n s b x h c z =
+      let a = after_keeps body n b x h c in
+      after_nothing step n s (after_of M o body x) a.valid (a.same ∙ c) (after_nothing body n b x h c z)
+
   pub loops_settle : LoopsSettle M o
   unfolding Keeps
-  loops_settle test body d h ot ob =
-      let k : Keeps d.variables (after_of M o body) = after_keeps body d.variables ob in
-      let G = turn_of M o.mode test (after_of M o body) d in
-      first_phase_settles M laws o.thresholds d.variables o.delay G (record { answers = turn_keeps test (after_of M o body) d h ot k }) d h refl
-      (λ e. turn_nothing test (after_of M o body) d e (sym (k d h refl).same) (after_nothing body d.variables ob d h refl e))
+  loops_settle test step body d h ot os ob =
+      let lap : LeafValue → LeafValue = lap_of M o step body in
+      let k : Keeps d.variables lap = lap_keeps step body d.variables os ob in
+      let G = turn_of M o.mode test lap d in
+      first_phase_settles M laws o.thresholds d.variables o.delay G (record { answers = turn_keeps test lap d h ot k }) d h refl
+      (λ e. turn_nothing test lap d e (sym (k d h refl).same) (lap_nothing step body d.variables os ob d h refl e))
 
   -- narrowing keeps a stable leaf stable
   narrowings_settle : (G : LeafValue → LeafValue) (m : ℕ) (x : LeafValue) → M.leq (G x) x ≡ true → M.leq (G (narrowings_of M o.thresholds G m x)) (narrowings_of M o.thresholds G m x) ≡ true
@@ -194,18 +210,18 @@ module _ (M : LeafMeaning) (laws : LeafLaws M) (o : Options) (A : TransferAnswer
       by_test false f = e
 
   pub finals_are_inductive : FinalsAreInductive M o
-  finals_are_inductive test body d h ot ob = narrowings_settle (turn_of M o.mode test (after_of M o body) d) o.narrow _ (loops_settle test body d h ot ob)
+  finals_are_inductive test step body d h ot os ob = narrowings_settle (turn_of M o.mode test (lap_of M o step body) d) o.narrow _ (loops_settle test step body d h ot os ob)
 
-  -- a loop's final leaf holds each store with which the loop is entered, and each that comes from its body
-  pub record Holds (test : Term) (body : Code) (d : LeafValue) : Type 0 where
-    pub entered : (s : List ℤ) → M.holds d s → M.holds (final_leaf M o test (after_of M o body) d) s
-    pub again : (s : List ℤ) → M.holds (after_of M o body (assumed M o.mode test true (final_leaf M o test (after_of M o body) d))) s → M.holds (final_leaf M o test (after_of M o body) d) s
+  -- a loop's final leaf holds each store with which the loop is entered, and each that comes from a lap
+  pub record Holds (test : Term) (step body : Code) (d : LeafValue) : Type 0 where
+    pub entered : (s : List ℤ) → M.holds d s → M.holds (final_leaf M o test (lap_of M o step body) d) s
+    pub again : (s : List ℤ) → M.holds (lap_of M o step body (assumed M o.mode test true (final_leaf M o test (lap_of M o step body) d))) s → M.holds (final_leaf M o test (lap_of M o step body) d) s
 
-  pub loop_holds : (test : Term) (body : Code) (d : LeafValue) → M.valid d → IsTermOf d.variables test → IsCodeOf d.variables body → Holds test body d
+  pub loop_holds : (test : Term) (step body : Code) (d : LeafValue) → M.valid d → IsTermOf d.variables test → IsCodeOf d.variables step → IsCodeOf d.variables body → Holds test step body d
   unfolding Keeps
-  loop_holds test body d h ot ob =
-      let f = after_of M o body in
-      let k : Keeps d.variables f = after_keeps body d.variables ob in
+  loop_holds test step body d h ot os ob =
+      let f : LeafValue → LeafValue = lap_of M o step body in
+      let k : Keeps d.variables f = lap_keeps step body d.variables os ob in
       let G = turn_of M o.mode test f d in
       let x = final_leaf M o test f d in
       let i = final_answers test f d h ot k in
@@ -214,7 +230,7 @@ module _ (M : LeafMeaning) (laws : LeafLaws M) (o : Options) (A : TransferAnswer
       let j = turn_keeps test f d h ot k x i.valid i.same in
       let joined : Alike M d (f (assumed M o.mode test true x)) = record { first = h; second = b.valid; same = sym (b.same ∙ a.same ∙ i.same) } in
       let compared : Alike M (G x) x = record { first = j.valid; second = i.valid; same = j.same } in
-      let settled : M.leq (G x) x ≡ true = narrowings_settle G o.narrow (widened_leaf M o.thresholds o.delay G d) (loops_settle test body d h ot ob) in
+      let settled : M.leq (G x) x ≡ true = narrowings_settle G o.narrow (widened_leaf M o.thresholds o.delay G d) (loops_settle test step body d h ot os ob) in
       record {
         entered = λ s p. laws.leq_holds _ _ s compared settled (laws.join_holds _ _ s joined (inl p));
         again = λ s p. laws.leq_holds _ _ s compared settled (laws.join_holds _ _ s joined (inr p));
@@ -225,5 +241,5 @@ module _ (M : LeafMeaning) (laws : LeafLaws M) (o : Options) (A : TransferAnswer
   unfolding Keeps
   after_answers c v h n = after_keeps c v.variables n v h refl
 
-  pub final_of_code : (e : Term) (body : Code) (v : LeafValue) → M.valid v → IsTermOf v.variables e → IsCodeOf v.variables body → IsLeafLike M v (final_leaf M o e (after_of M o body) v)
-  final_of_code e body v h t n = final_answers e (after_of M o body) v h t (after_keeps body v.variables n)
+  pub final_of_code : (e : Term) (step body : Code) (v : LeafValue) → M.valid v → IsTermOf v.variables e → IsCodeOf v.variables step → IsCodeOf v.variables body → IsLeafLike M v (final_leaf M o e (lap_of M o step body) v)
+  final_of_code e step body v h t s n = final_answers e (lap_of M o step body) v h t (lap_keeps step body v.variables s n)

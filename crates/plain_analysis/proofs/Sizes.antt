@@ -19,7 +19,7 @@ size_of (Assign place x e rest) = size_of rest + 1
 size_of (Input place x rest) = size_of rest + 1
 size_of (Assert place e rest) = size_of rest + 1
 size_of (If place e p q rest) = size_of p + size_of q + size_of rest + 1
-size_of (While place e body rest) = size_of body + size_of rest + 1
+size_of (While place e step body rest) = size_of step + size_of body + size_of rest + 1
 size_of (Block place body rest) = size_of body + size_of rest + 1
 size_of (Skip place rest) = size_of rest + 1
 size_of (Cond number p q rest) = size_of p + size_of q + size_of rest + 1
@@ -29,7 +29,7 @@ size-opened rest (stmt.Assign place target value) = omega arith
 size-opened rest (stmt.Input place target) = omega arith
 size-opened rest (stmt.Assert place test) = omega arith
 size-opened rest (stmt.If place test p q) = omega arith
-size-opened rest (stmt.While place test body) = omega arith
+size-opened rest (stmt.While place test step body) = omega arith
 size-opened rest (stmt.Block place body) = omega arith
 size-opened rest (stmt.Skip place) = omega arith
 size-opened rest (stmt.Cond number p q) = omega arith
@@ -73,10 +73,11 @@ sides_smaller s place e p q l m h j k =
     let second : size_of (code m) ≡ size_of (code q.items) = ap (λ l. size_of (code l)) k in
     omega arith
 
-pub body_smaller : (s : Stmt) (place : Place) (e : Expr) (body : Vec Stmt Global) (l : List Stmt) → s ≡ variant.While place e body → l ≡ body.items → size_of (code l) < size_of (front s Done)
-body_smaller s place e body l h k =
-    let whole : size_of (front s Done) ≡ size_of (code body.items) + 0 + 1 = ap (λ s. size_of (front s Done)) h ∙ ap size_of (front-While place e body) in
-    let part : size_of (code l) ≡ size_of (code body.items) = ap (λ l. size_of (code l)) k in
+pub lap_smaller : (s : Stmt) (place : Place) (e : Expr) (step body : Vec Stmt Global) (l m : List Stmt) → s ≡ variant.While place e step body → l ≡ step.items → m ≡ body.items → size_of (code l) + size_of (code m) < size_of (front s Done)
+lap_smaller s place e step body l m h j k =
+    let whole : size_of (front s Done) ≡ size_of (code step.items) + size_of (code body.items) + 0 + 1 = ap (λ s. size_of (front s Done)) h ∙ ap size_of (front-While place e step body) in
+    let first : size_of (code l) ≡ size_of (code step.items) = ap (λ l. size_of (code l)) j in
+    let second : size_of (code m) ≡ size_of (code body.items) = ap (λ l. size_of (code l)) k in
     omega arith
 
 pub block_smaller : (s : Stmt) (place : Place) (body : Vec Stmt Global) (l : List Stmt) → s ≡ variant.Block place body → l ≡ body.items → size_of (code l) < size_of (front s Done)

@@ -51,8 +51,9 @@ places_of_statements (Assert place e rest) = ap (λ l. place ∷ l) (places_of_s
 places_of_statements (If place e p q rest) =
     ap (λ l. place ∷ l) (both (statements_of p) (statements_of q ++ statements_of rest) _ _ (places_of_statements p)
     (both (statements_of q) (statements_of rest) _ _ (places_of_statements q) (places_of_statements rest)))
-places_of_statements (While place e body rest) =
-    ap (λ l. place ∷ l) (both (statements_of body) (statements_of rest) _ _ (places_of_statements body) (places_of_statements rest))
+places_of_statements (While place e step body rest) =
+    ap (λ l. place ∷ l) (both (statements_of step) (statements_of body ++ statements_of rest) _ _ (places_of_statements step)
+    (both (statements_of body) (statements_of rest) _ _ (places_of_statements body) (places_of_statements rest)))
 places_of_statements (Block place body rest) =
     ap (λ l. place ∷ l) (both (statements_of body) (statements_of rest) _ _ (places_of_statements body) (places_of_statements rest))
 places_of_statements (Skip place rest) = ap (λ l. place ∷ l) (places_of_statements rest)
@@ -86,11 +87,13 @@ module _ (p : Whole) where
         loops_found b (found_first all (statements_of b) (statements_of rest) behind),
         loops_found rest (found_second all (statements_of b) (statements_of rest) behind),
       )
-  loops_found (While place e body rest) h = (
-    record { stands = h.0 },
-    loops_found body (found_first all (statements_of body) (statements_of rest) h.1),
-    loops_found rest (found_second all (statements_of body) (statements_of rest) h.1),
-  )
+  loops_found (While place e step body rest) h =
+      let behind = found_second all (statements_of step) (statements_of body ++ statements_of rest) h.1 in (
+        record { stands = h.0 },
+        loops_found step (found_first all (statements_of step) (statements_of body ++ statements_of rest) h.1),
+        loops_found body (found_first all (statements_of body) (statements_of rest) behind),
+        loops_found rest (found_second all (statements_of body) (statements_of rest) behind),
+      )
   loops_found (Block place body rest) h = (
     loops_found body (found_first all (statements_of body) (statements_of rest) h.1),
     loops_found rest (found_second all (statements_of body) (statements_of rest) h.1),
@@ -115,7 +118,7 @@ module _ (p : Whole) where
   loops-opened rest (stmt.Input place target) h = (tt, h)
   loops-opened rest (stmt.Assert place test) h = (tt, h)
   loops-opened rest (stmt.If place test a b) h = ((h.0, h.1, tt), h.2)
-  loops-opened rest (stmt.While place test body) h = ((h.0, h.1, tt), h.2)
+  loops-opened rest (stmt.While place test step body) h = ((h.0, h.1, h.2, tt), h.3)
   loops-opened rest (stmt.Block place body) h = ((h.0, tt), h.1)
   loops-opened rest (stmt.Skip place) h = (tt, h)
   loops-opened rest (stmt.Cond number a b) h = ((h.0, h.1, tt), h.2)
@@ -131,10 +134,11 @@ module _ (p : Whole) where
       let w : HasLoopsOf p (If place (term e) (code a.items) (code b.items) Done) = subst (HasLoopsOf p) (ap (λ s. front s Done) h ∙ front-If place e a b) k in
       (w.0, w.1)
 
-  pub loops_While : (s : Stmt) (place : Place) (e : Expr) (body : Vec Stmt Global) → s ≡ variant.While place e body → HasLoopsOf p (front s Done) → IsLoopAt p place (term e) (code body.items) × HasLoopsOf p (code body.items)
-  loops_While s place e body h k =
-      let w : HasLoopsOf p (While place (term e) (code body.items) Done) = subst (HasLoopsOf p) (ap (λ s. front s Done) h ∙ front-While place e body) k in
-      (w.0, w.1)
+  pub loops_While : (s : Stmt) (place : Place) (e : Expr) (step body : Vec Stmt Global) → s ≡ variant.While place e step body → HasLoopsOf p (front s Done)
+      → IsLoopAt p place (term e) (code step.items) (code body.items) × HasLoopsOf p (code step.items) × HasLoopsOf p (code body.items)
+  loops_While s place e step body h k =
+      let w : HasLoopsOf p (While place (term e) (code step.items) (code body.items) Done) = subst (HasLoopsOf p) (ap (λ s. front s Done) h ∙ front-While place e step body) k in
+      (w.0, w.1, w.2)
 
   pub loops_Block : (s : Stmt) (place : Place) (body : Vec Stmt Global) → s ≡ variant.Block place body → HasLoopsOf p (front s Done) → HasLoopsOf p (code body.items)
   loops_Block s place body h k =
@@ -145,13 +149,14 @@ module _ (p : Whole) where
   pub loops_same : (l k : List Stmt) → l ≡ k → HasLoopsOf p (code k) → HasLoopsOf p (code l)
   loops_same l k e h = subst (λ x. HasLoopsOf p (code x)) (sym e) h
 
-  pub loop_same : (place : Place) (e : Term) (l k : List Stmt) → l ≡ k → IsLoopAt p place e (code k) → IsLoopAt p place e (code l)
-  loop_same place e l k f h = subst (λ x. IsLoopAt p place e (code x)) (sym f) h
+  pub loop_same : (place : Place) (e : Term) (l k m n : List Stmt) → l ≡ k → m ≡ n → IsLoopAt p place e (code k) (code n) → IsLoopAt p place e (code l) (code m)
+  loop_same place e l k m n f g h = subst (λ x. IsLoopAt p place e (code x) (code m)) (sym f) (subst (λ x. IsLoopAt p place e (code k) (code x)) (sym g) h)
 
 -- at one place stands one loop
-pub one_loop : (p : Whole) (place : Place) (e f : Term) (a b : Code) → IsLoopAt p place e a → IsLoopAt p place f b → (e ≡ f) × (a ≡ b)
-one_loop p place e f a b h k =
-    let same : Some (While place e a Done) ≡ Some (While place f b Done) = sym h.stands ∙ k.stands in
+pub one_loop : (p : Whole) (place : Place) (e f : Term) (s t a b : Code) → IsLoopAt p place e s a → IsLoopAt p place f t b → (e ≡ f) × (s ≡ t) × (a ≡ b)
+one_loop p place e f s t a b h k =
+    let same : Some (While place e s a Done) ≡ Some (While place f t b Done) = sym h.stands ∙ k.stands in
     let test : e ≡ f = cc in
+    let step : s ≡ t = cc in
     let body : a ≡ b = cc in
-    (test, body)
+    (test, step, body)

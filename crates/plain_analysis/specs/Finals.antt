@@ -9,7 +9,7 @@ use Rattle.plain_analysis.specs.declared.finals.Finals.{Finals}
 use Rattle.plain_analysis.specs.declared.task.Task.{Task}
 use Rattle.plain_analysis.specs.Loops.{final_leaf}
 use Rattle.plain_analysis.specs.Stated.{IsLoopAt}
-use Rattle.plain_analysis.specs.Statements.{after_of}
+use Rattle.plain_analysis.specs.Statements.{lap_of}
 
 -- the same place, and the same leaf
 abbrev pub same_entered : {L : Type 0} → (L → L → Bool) → Entered L → Entered L → Bool
@@ -18,8 +18,8 @@ same_entered eq a b = (a.place.line == b.place.line && a.place.column == b.place
 -- the final leaf of the program's loop at the place, where it is entered with the leaf
 pub record IsFinal {L : Type 0} (value : L → LeafValue) (M : LeafMeaning) (t : Task) (k : Entered L) (last : L) : Type 0 where
   pub same : (value last).variables ≡ (value k.leaf).variables
-  pub final : (test : Term) (body : Code) → IsLoopAt (whole t.program.now) k.place test body
-      → value last ≡ final_leaf M t.options.now test (after_of M t.options.now body) (value k.leaf)
+  pub final : (test : Term) (step body : Code) → IsLoopAt (whole t.program.now) k.place test step body
+      → value last ≡ final_leaf M t.options.now test (lap_of M t.options.now step body) (value k.leaf)
 
 -- all that is remembered is so
 pub record Remembers {L : Type 0} (value : L → LeafValue) (M : LeafMeaning) (t : Task) (f : Finals L) : Type 0 where

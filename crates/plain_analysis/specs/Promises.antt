@@ -12,21 +12,22 @@ use Rattle.leaf_domain.specs.Transfer.{assumed, assigned, forgotten}
 use Rattle.plain_analysis.specs.declared.alarm.Alarm.{Alarm}
 use Rattle.plain_analysis.specs.declared.options.Options.{Options}
 use Rattle.plain_analysis.specs.Loops.{turn_of, widened_leaf, final_leaf}
-use Rattle.plain_analysis.specs.Statements.{Heads, passed, final_heads, after_of}
+use Rattle.plain_analysis.specs.Statements.{Heads, passed, lap, head_by, final_heads, lap_of}
 use Rattle.plain_analysis.specs.Places.{at_by, alarms_by}
 
 -- of each loop: after the rounds of joining and widening, what comes in at its head is below the leaf there
 abbrev pub LoopsSettle : LeafMeaning → Options → Type 0
 LoopsSettle M o =
-    (test : Term) (body : Code) (d : LeafValue) → M.valid d → IsTermOf d.variables test → IsCodeOf d.variables body
-    → let G = turn_of M o.mode test (after_of M o body) d in
+    (test : Term) (step body : Code) (d : LeafValue) → M.valid d → IsTermOf d.variables test → IsCodeOf d.variables step → IsCodeOf d.variables body
+    → let G = turn_of M o.mode test (lap_of M o step body) d in
     M.leq (G (widened_leaf M o.thresholds o.delay G d)) (widened_leaf M o.thresholds o.delay G d) ≡ true
 
 -- of each loop: what comes in at its head is below its final leaf too, so that this leaf is inductive
 abbrev pub FinalsAreInductive : LeafMeaning → Options → Type 0
 FinalsAreInductive M o =
-    (test : Term) (body : Code) (d : LeafValue) → M.valid d → IsTermOf d.variables test → IsCodeOf d.variables body
-    → M.leq (turn_of M o.mode test (after_of M o body) d (final_leaf M o test (after_of M o body) d)) (final_leaf M o test (after_of M o body) d) ≡ true
+    (test : Term) (step body : Code) (d : LeafValue) → M.valid d → IsTermOf d.variables test → IsCodeOf d.variables step → IsCodeOf d.variables body
+    → let x = final_leaf M o test (lap_of M o step body) d in
+    M.leq (turn_of M o.mode test (lap_of M o step body) d x) x ≡ true
 
 -- the store that a run has reached lies in the leaf at its place, and the stop that it has met is among the alarms
 abbrev pub IsForeseen : LeafMeaning → (Place → LeafValue) → Place → List Alarm → End → Type 0
@@ -45,11 +46,12 @@ RunsForeseenBy M mode H p d =
 abbrev pub RunsForeseen : LeafMeaning → Options → Whole → LeafValue → Type 0
 RunsForeseen M o p d = RunsForeseenBy M o.mode (final_heads M o) p d
 
--- a loop's head holds each store with which the loop is entered, and each that its body makes of the head's
-pub record IsHeld (M : LeafMeaning) (mode : Mode) (test : Term) (body : LeafValue → LeafValue) (v head : LeafValue) : Type 0 where
+-- a loop's head holds each store with which the loop is entered, and each that a lap, its body and then its step, makes of the
+-- head's
+pub record IsHeld (M : LeafMeaning) (mode : Mode) (test : Term) (lap : LeafValue → LeafValue) (v head : LeafValue) : Type 0 where
   pub answers : IsLeafLike M v head
   pub entered : (store : List ℤ) → M.holds v store → M.holds head store
-  pub again : (store : List ℤ) → M.holds (body (assumed M mode test true head)) store → M.holds head store
+  pub again : (store : List ℤ) → M.holds (lap (assumed M mode test true head)) store → M.holds head store
 
 -- so does each loop's of a list of statements that is entered with v
 abbrev pub AreHeld : LeafMeaning → Mode → Heads → Code → LeafValue → Type 0
@@ -60,10 +62,12 @@ AreHeld M mode H (Assert place e rest) v = AreHeld M mode H rest (assumed M mode
 AreHeld M mode H (If place e p q rest) v =
     AreHeld M mode H p (assumed M mode e true v) × AreHeld M mode H q (assumed M mode e false v)
     × AreHeld M mode H rest (M.join (passed M mode H p (assumed M mode e true v)) (passed M mode H q (assumed M mode e false v)))
-AreHeld M mode H (While place e body rest) v =
-    IsHeld M mode e (passed M mode H body) v (H place e (passed M mode H body) v)
-    × AreHeld M mode H body (assumed M mode e true (H place e (passed M mode H body) v))
-    × AreHeld M mode H rest (assumed M mode e false (H place e (passed M mode H body) v))
+AreHeld M mode H (While place e step body rest) v =
+    let x = head_by M mode H place e step body v in
+    IsHeld M mode e (lap M mode H step body) v x
+    × AreHeld M mode H step (passed M mode H body (assumed M mode e true x))
+    × AreHeld M mode H body (assumed M mode e true x)
+    × AreHeld M mode H rest (assumed M mode e false x)
 AreHeld M mode H (Block place body rest) v = AreHeld M mode H body v × AreHeld M mode H rest (passed M mode H body v)
 AreHeld M mode H (Skip place rest) v = AreHeld M mode H rest v
 AreHeld M mode H (Cond number p q rest) v = AreHeld M mode H rest v

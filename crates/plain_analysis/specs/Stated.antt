@@ -20,8 +20,8 @@ statements_of (Input place x rest) = record { place = place; alone = Input place
 statements_of (Assert place e rest) = record { place = place; alone = Assert place e Done } ∷ statements_of rest
 statements_of (If place e p q rest) =
     record { place = place; alone = If place e p q Done } ∷ (statements_of p ++ (statements_of q ++ statements_of rest))
-statements_of (While place e body rest) =
-    record { place = place; alone = While place e body Done } ∷ (statements_of body ++ statements_of rest)
+statements_of (While place e step body rest) =
+    record { place = place; alone = While place e step body Done } ∷ (statements_of step ++ (statements_of body ++ statements_of rest))
 statements_of (Block place body rest) =
     record { place = place; alone = Block place body Done } ∷ (statements_of body ++ statements_of rest)
 statements_of (Skip place rest) = record { place = place; alone = Skip place Done } ∷ statements_of rest
@@ -32,9 +32,9 @@ abbrev pub statement_in : List Statement → Place → Option Code
 statement_in [] place = None
 statement_in (s ∷ ss) place = if is_same_place s.place place then Some s.alone else statement_in ss place
 
--- at the place the program has a loop with this test and body
-pub record IsLoopAt (p : Whole) (place : Place) (test : Term) (body : Code) : Type 0 where
-  pub stands : statement_in (statements_of p.body) place ≡ Some (While place test body Done)
+-- at the place the program has a loop with this test, step and body
+pub record IsLoopAt (p : Whole) (place : Place) (test : Term) (step body : Code) : Type 0 where
+  pub stands : statement_in (statements_of p.body) place ≡ Some (While place test step body Done)
 
 -- the program has each loop of the code at its place
 abbrev pub HasLoopsOf : Whole → Code → Type 0
@@ -43,7 +43,7 @@ HasLoopsOf p (Assign place x e rest) = HasLoopsOf p rest
 HasLoopsOf p (Input place x rest) = HasLoopsOf p rest
 HasLoopsOf p (Assert place e rest) = HasLoopsOf p rest
 HasLoopsOf p (If place e a b rest) = HasLoopsOf p a × HasLoopsOf p b × HasLoopsOf p rest
-HasLoopsOf p (While place e body rest) = IsLoopAt p place e body × HasLoopsOf p body × HasLoopsOf p rest
+HasLoopsOf p (While place e step body rest) = IsLoopAt p place e step body × HasLoopsOf p step × HasLoopsOf p body × HasLoopsOf p rest
 HasLoopsOf p (Block place body rest) = HasLoopsOf p body × HasLoopsOf p rest
 HasLoopsOf p (Skip place rest) = HasLoopsOf p rest
 HasLoopsOf p (Cond number a b rest) = HasLoopsOf p a × HasLoopsOf p b × HasLoopsOf p rest
@@ -55,6 +55,6 @@ IsPartOf n p c = IsCodeOf n c × HasLoopsOf p c
 -- a loop of a program over so many variables
 pub record IsLoopOf (n : ℕ) (p : Whole) (l : Loop) : Type 0 where
   pub test : IsTermOf n (term l.test.now)
-  pub body : IsCodeOf n (code l.body.now)
-  pub loops : HasLoopsOf p (code l.body.now)
-  pub here : IsLoopAt p l.place (term l.test.now) (code l.body.now)
+  pub step : IsPartOf n p (code l.step.now)
+  pub body : IsPartOf n p (code l.body.now)
+  pub here : IsLoopAt p l.place (term l.test.now) (code l.step.now) (code l.body.now)

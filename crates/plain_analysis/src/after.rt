@@ -81,10 +81,16 @@ fn after_stmt<L: Leaf>(
         Stmt::Input { target, .. } => forget(task.alloc, leaf, *target),
         Stmt::Assert { test, .. } => assume(task.alloc, leaf, test, true, task.options.mode),
         Stmt::If { test, yes, no, .. } => after_choice(finals, task, yes, no, test, leaf),
-        Stmt::While { place, test, body } => {
+        Stmt::While {
+            place,
+            test,
+            step,
+            body,
+        } => {
             let the_loop = Loop {
                 place: *place,
                 test,
+                step,
                 body,
             };
             let last = final_leaf(finals, task, &the_loop, leaf)?;
@@ -168,8 +174,9 @@ fn turn<L: Leaf>(
     ensures same { IfOk result (λ made. (L.value made).variables ≡ (L.value leaf.now).variables) }
     ensures memory { OnOk result (Remembers L.value L.meaning task.now finals.new) }
 {
-    let end = after_side(finals, task, the_loop.body, the_loop.test, true, at)?;
-    joined(task.alloc, leaf, &end)
+    let behind = after_side(finals, task, the_loop.body, the_loop.test, true, at)?;
+    let again = after_list(finals, task, the_loop.step, &behind)?;
+    joined(task.alloc, leaf, &again)
 }
 
 /// The head of a loop that has `at`.

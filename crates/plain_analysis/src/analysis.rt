@@ -27,8 +27,8 @@ use std::alloc::Global;
 /// it is the loop's final leaf: the one after `delay` rounds of joining, so many rounds of widening
 /// to the thresholds that what comes in at the head is then below it, and `narrow` rounds of
 /// narrowing, where a candidate is taken only if what comes in with it is below it. So what comes in
-/// at the head is below the final leaf too. In the body it is the leaf of one
-/// more pass from there, and at the end the leaf after the whole body.
+/// at the head is below the final leaf too. In the body, and behind it in the step, it is the leaf
+/// of one more pass from there, and at the end the leaf after the whole body of `main`.
 ///
 /// An alarm stands at a place and with a kind exactly where the statement there may stop with the
 /// kind by its leaf; alarms come by place and then by kind. In the mode of the options and for each

@@ -8,8 +8,8 @@ ghost use Rattle.c_tree.specs.Fit.{IsTermOf, IsCodeOf};
 ghost use Rattle.leaf_domain.specs.Transfer.{assumed};
 ghost use Rattle.leaf_domain.specs.Stops.{may_at};
 ghost use Rattle.plain_analysis.specs.Finals.{Remembers};
-ghost use Rattle.plain_analysis.specs.Stated.{IsPartOf};
-ghost use Rattle.plain_analysis.specs.Statements.{after_of, entries_of};
+ghost use Rattle.plain_analysis.specs.Stated.{IsPartOf, IsLoopOf};
+ghost use Rattle.plain_analysis.specs.Statements.{after_of, entries_of, lap_entries};
 ghost use Rattle.plain_analysis.specs.Places.{alarm_where};
 ghost use Rattle.plain_analysis.specs.Entered.{place_and_leaf, HasEntered};
 
@@ -23,12 +23,36 @@ use crate::task::Task;
 use c_tree::{Expr, Kind, Stmt};
 use fam_outer::{NoMemory, Place};
 use leaf_domain::{Leaf, assign, assume, forget, may};
+use std::alloc::Global;
 
 /// The leaves and alarms noted so far, in the order of the text.
 #[derive(Drop)]
 pub(crate) struct Noted<L> {
     pub(crate) places: Vec<PlaceLeaf<L>>,
     pub(crate) alarms: Vec<Alarm>,
+}
+
+impl<L: Leaf> Noted<L> {
+    /// Nothing is noted.
+    pub(crate) fn new(alloc: Global) -> Noted<L>
+        ensures places { result.places.items ≡ [] }
+        ensures alarms { result.alarms.items ≡ [] }
+    {
+        Noted {
+            places: Vec::new(alloc),
+            alarms: Vec::new(alloc),
+        }
+    }
+
+    /// Adds what is noted of later statements.
+    fn append(&mut self, mut later: Noted<L>) -> Result<(), NoMemory>
+        ensures places { OnOk result (self.new.places.items ≡ self.old.places.items ++ later.places.items) }
+        ensures alarms { OnOk result (self.new.alarms.items ≡ self.old.alarms.items ++ later.alarms.items) }
+    {
+        self.places.append(&mut later.places)?;
+        self.alarms.append(&mut later.alarms)?;
+        Ok(())
+    }
 }
 
 /// Adds the leaf with which a statement is entered.
@@ -112,7 +136,7 @@ pub(crate) fn enter_list<L: Leaf>(
 }
 
 /// Enters a statement and those in it with `leaf`, and answers the leaf after it. A loop is entered
-/// with its final leaf, and its body once, from there.
+/// with its final leaf, its body once, from there, and its step from behind the body.
 #[cycle(enter)]
 fn enter_stmt<L: Leaf>(
     finals: &mut Finals<L>,
@@ -158,15 +182,21 @@ fn enter_stmt<L: Leaf>(
             let after_no = enter_side(finals, noted, task, no, test, false, leaf)?;
             joined(task.alloc, &after_yes, &after_no)
         }
-        Stmt::While { place, test, body } => {
+        Stmt::While {
+            place,
+            test,
+            step,
+            body,
+        } => {
             let the_loop = Loop {
                 place: *place,
                 test,
+                step,
                 body,
             };
             let last = final_leaf(finals, task, &the_loop, leaf)?;
             enter(noted, task, s, *place, &last)?;
-            enter_side(finals, noted, task, body, test, true, &last)?;
+            enter_lap(finals, noted, task, &the_loop, &last)?;
             assume(task.alloc, &last, test, false, task.options.mode)
         }
         Stmt::Block { place, body } => {
@@ -179,6 +209,36 @@ fn enter_stmt<L: Leaf>(
         }
         Stmt::Cond { .. } => leaf.copy(task.alloc),
     }
+}
+
+/// Enters the body of a loop from the leaf at its head, and then its step, which is noted before the body.
+#[cycle(enter)]
+fn enter_lap<L: Leaf>(
+    finals: &mut Finals<L>,
+    noted: &mut Noted<L>,
+    task: &Task<'_>,
+    the_loop: &Loop<'_>,
+    head: &L,
+) -> Result<(), NoMemory>
+    requires own { IsLoopOf (L.value head.now).variables (whole task.now.program.now) the_loop.now }
+    requires memory { Remembers L.value L.meaning task.now finals.old }
+    ensures entered { OnOk result (HasEntered L.value L.meaning task.now.options.now noted.old noted.new
+        (lap_entries L.meaning task.now.options.now (term the_loop.now.test.now) (code the_loop.now.step.now) (code the_loop.now.body.now)
+        (L.value head.now))) }
+    ensures memory { OnOk result (Remembers L.value L.meaning task.now finals.new) }
+{
+    let mut in_body = Noted::new(task.alloc);
+    let behind = enter_side(
+        finals,
+        &mut in_body,
+        task,
+        the_loop.body,
+        the_loop.test,
+        true,
+        head,
+    )?;
+    enter_list(finals, noted, task, the_loop.step, &behind)?;
+    noted.append(in_body)
 }
 
 /// Enters the statements of a list where a test is not 0, or is 0, and answers the leaf after them.

@@ -12,8 +12,8 @@ use c_tree::Program;
 use leaf_domain::{Leaf, leaf_is_valid, transfer_is_sound};
 
 /// A pass over a program foresees each run, whatever its loops have at their heads, as long as each head holds the stores with
-/// which its loop is entered and those that the loop's body makes of the head's. It rests on the laws of leaves alone, and on
-/// nothing that an analysis does to find such heads.
+/// which its loop is entered and those that the loop's body and then its step make of the head's. It rests on the laws of
+/// leaves alone, and on nothing that an analysis does to find such heads.
 pub fn passes_foresee_runs<L: Leaf>(program: &Program, start: &L)
     requires program { IsProgram (whole program.now) }
     requires plain { IsPlainProgram (whole program.now) }

@@ -4,10 +4,11 @@
 use c_tree::{Expr, Stmt};
 use fam_outer::Place;
 
-/// A loop: where it stands, its test and its body.
+/// A loop: where it stands, its test, its step and its body.
 #[derive(Clone, Copy)]
 pub struct Loop<'a> {
     pub place: Place,
     pub test: &'a Expr,
+    pub step: &'a [Stmt],
     pub body: &'a [Stmt],
 }

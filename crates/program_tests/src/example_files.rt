@@ -1,7 +1,7 @@
 //! The example files, and the words of commands on them with what is expected, as `examples/to_tests.sh` writes them.
 
 /// Programs without variants.
-pub(crate) const PROGRAM_FILES: [(&str, &str); 14] = [
+pub(crate) const PROGRAM_FILES: [(&str, &str); 15] = [
     (
         "assertion.c",
         "int level = 900;\nint limit = 1000;\nint main(void)\n{\n    level = level - limit;\n    assert(level > 0 - 200);\n    assert(level >= 0);\n    level = 0;\n}\n",
@@ -55,6 +55,10 @@ pub(crate) const PROGRAM_FILES: [(&str, &str); 14] = [
         "#include <assert.h>\n/* A counter, and a sensor whose value is\n   brought within 0 to 100. */\nextern int input(void);\n\nint count;\nint load;\n\nint main(void)\n{\n    load = input();\n    if (load < 0 || load > 100)\n        load = 0;\n    while (count < 10)\n        count++;\n    assert(count == 10); // narrowing gives 10\n    load = 1000 / load;\n    return 0;\n}\n",
     ),
     (
+        "table.c",
+        "#include <assert.h>\n/* A table of 16 squares is filled when the program starts. Of the array the assertion of its index is left. */\nstatic int i;\nstatic int entry;\n\nint main(void)\n{\n    for (i = 0; i <= 16; i++) {\n        assert(i >= 0 && i < 16);\n        entry = i * i;\n    }\n    return 0;\n}\n",
+    ),
+    (
         "valve.c",
         "#include <assert.h>\n\n/* A valve opens as far as a level stands above 80, and is shut above 20. Below 20 nothing is said of it. */\nint main(void)\n{\n    const int high = 80;\n    int level = input();\n    if (level < 0 || level > 100)\n        level = 0;\n\n    int opening;\n    if (level > high)\n        opening = level - high;\n    else if (level > 20)\n        opening = 0;\n    assert(opening >= 0 && opening <= 20);\n    return 0;\n}\n",
     ),
@@ -76,7 +80,7 @@ pub(crate) const REFUSED_FILES: [(&str, &str); 18] = [
     ),
     (
         "F12.c",
-        "int level;\nint main(void)\n{\n    for (level = 0; level < 10; level++)\n        ;\n}\n",
+        "int level;\nint main(void)\n{\n    do\n        level++;\n    while (level < 10);\n}\n",
     ),
     (
         "F12_enum.c",
@@ -360,7 +364,7 @@ pub(crate) const REFUSED_FAMILY_FILES: [(&str, &str); 44] = [
 ];
 
 /// The words of each command on a program without variants, with its output and then its line on the error stream.
-pub(crate) const PROGRAMS: [(&str, &str); 36] = [
+pub(crate) const PROGRAMS: [(&str, &str); 37] = [
     ("plain assertion.c", "7:5: assertion\nalarms: 1\n"),
     ("plain digits.c", "alarms: 0\n"),
     (
@@ -387,6 +391,7 @@ pub(crate) const PROGRAMS: [(&str, &str); 36] = [
     ("plain quiet.c", "alarms: 0\n"),
     ("plain ramp.c", "alarms: 0\n"),
     ("plain sensor.c", "17:5: zero-divisor\nalarms: 1\n"),
+    ("plain table.c", "9:9: assertion\nalarms: 1\n"),
     ("plain valve.c", "16:5: assertion\nalarms: 1\n"),
     ("plain F1.c", "file: F1 at 4:12\n"),
     ("plain F10.c", "file: F10 at 3:12\n"),

@@ -1,5 +1,5 @@
 -- A file has no more statements than items.
-use Rattle.std.proofs.Common.{◌≡◌, ℕ, suc, ◌+◌, ◌≤◌, List, ◌∷◌, ◌++◌, length, subst, sym, arith, le_refl}
+use Rattle.std.proofs.Common.{◌≡◌, ℕ, suc, ◌+◌, ◌≤◌, List, ◌∷◌, ◌++◌, length, subst, sym, ap, ◌∙◌, arith, le_refl}
 use Rattle.std.proofs.lemmas.List.{length-append}
 use Rattle.fam_outer.specs.declared.faults.Place.{Place}
 use Rattle.c_tree.specs.Tree.{Code, Done, Assign, Input, Assert, If, While, Block, Skip, Cond, followed, Whole}
@@ -8,7 +8,7 @@ use Rattle.c_grammar.specs.declared.items.Sign.TheVariants as signs
 use Rattle.c_grammar.specs.Grammar as grammar
 use Rattle.c_grammar.specs.Grammar.{Qualifier, Shape, File, Returns, at}
 use Rattle.c_grammar.specs.Within as within
-use Rattle.c_grammar.specs.Within.{LocalWithin, WritesIn, BodyWithin, MainWithin, FormsWithin, SpellsWithin}
+use Rattle.c_grammar.specs.Within.{ChangesWithin, ClauseWithin, LocalWithin, WritesIn, BodyWithin, MainWithin, FormsWithin, SpellsWithin}
 use Rattle.reading_laws.proofs.MadePrograms.{count_of}
 
 count-followed : (a b : Code) → count_of (followed a b) ≡ count_of a + count_of b
@@ -17,7 +17,7 @@ count-followed (Assign p x e rest) b = omega (arith, count-followed rest b)
 count-followed (Input p x rest) b = omega (arith, count-followed rest b)
 count-followed (Assert p e rest) b = omega (arith, count-followed rest b)
 count-followed (If p e x y rest) b = omega (arith, count-followed rest b)
-count-followed (While p e x rest) b = omega (arith, count-followed rest b)
+count-followed (While p e x y rest) b = omega (arith, count-followed rest b)
 count-followed (Block p x rest) b = omega (arith, count-followed rest b)
 count-followed (Skip p rest) b = omega (arith, count-followed rest b)
 count-followed (Cond n x y rest) b = omega (arith, count-followed rest b)
@@ -42,6 +42,9 @@ more_of n m h = omega arith
 with_one : (n m : ℕ) → n ≤ m → suc (n + 0) ≤ suc m
 with_one n m h = omega arith
 
+with_body : (n m : ℕ) → n ≤ m → suc (0 + (n + 0)) ≤ suc m
+with_body n m h = omega arith
+
 with_none : (n m : ℕ) → n ≤ m → suc (n + (0 + 0)) ≤ suc m
 with_none n m h = omega arith
 
@@ -56,6 +59,26 @@ local_counted (within.uninitialised p x) = one_of _
 local_counted (within.initialised p q x e) = one_of _
 local_counted (within.from_call p q r s t x f) = one_of _
 
+change_counted : {ts : List Item} {c : Code} → ChangesWithin ts c → count_of c ≤ length ts
+change_counted (within.assignment p q x e) = one_of _
+change_counted (within.input_taken p q r s t x f) = one_of _
+change_counted (within.compound_assignment p q x u e) = one_of _
+change_counted (within.count_behind p q x u) = one_of _
+change_counted (within.count_before p q x u) = one_of _
+
+clause_counted : {ts : List Item} {c : Code} → ClauseWithin ts c → count_of c ≤ length ts
+clause_counted within.no_clause = le_refl 0
+clause_counted (within.clause s) = change_counted s
+
+-- the items of a `for`
+for_length : (x y : Item) (ts us vs ws : List Item) → length (ts ++ x ∷ (us ++ (vs ++ y ∷ ws))) ≡ length ts + suc (length us + (length vs + suc (length ws)))
+for_length x y ts us vs ws =
+    length-append ts (x ∷ (us ++ (vs ++ y ∷ ws)))
+    ∙ ap (λ n. length ts + suc n) (length-append us (vs ++ y ∷ ws) ∙ ap (λ n. length us + n) (length-append vs (y ∷ ws)))
+
+with_loop : (n a s c t u v w : ℕ) → n ≡ a + suc (s + (c + 0)) → a ≤ t → s ≤ v → c ≤ w → n ≤ suc (suc (t + suc (u + (v + suc w))))
+with_loop n a s c t u v w e h j k = omega arith
+
 counted : {k : ℕ} {s : Shape} {ts : List Item} {c : Code} → WritesIn k s ts c → count_of c ≤ length ts
 counted within.none = le_refl 0
 counted (within.more {b} {ts} {us} {c} {d} {k} s l) = subst (λ (n : ℕ). n ≤ length (ts ++ us)) (sym (count-followed c d)) (two_lists (count_of c) (count_of d) ts us (counted s) (counted l))
@@ -69,17 +92,17 @@ counted (within.next_local p {ts} {us} {c} {d} {kind} {k} e v) =
 counted (within.ends p) = omega arith
 counted (within.otherwise p q {ts} {c} s) = more_of (count_of c) _ (then_some (count_of c) ts _ (counted s))
 counted (within.elif p n {ts} {us} {c} {d} s t) = with_two (count_of c) (count_of d) _ (two_lists (count_of c) (count_of d) ts us (counted s) (counted t))
-counted (within.assign p q r x e) = one_of _
-counted (within.input p q r s t u x f) = one_of _
+counted (within.change r {ts} {c} s) = then_some (count_of c) ts _ (change_counted s)
 counted (within.call p q r s f) = one_of _
 counted (within.void_call p q r s t u v f) = one_of _
-counted (within.update p q r x u e) = one_of _
-counted (within.count p q r x u) = one_of _
-counted (within.prefix_count p q r x u) = one_of _
 counted (within.assert p q r s e) = one_of _
 counted (within.skip p) = one_of _
 counted (within.block p q {ts} {c} s) = with_one (count_of c) _ (then_some (count_of c) ts _ (counted s))
-counted (within.while p q r {b} {ts} {us} {e} {c} f s) = with_one (count_of c) _ (more_of (count_of c) _ (behind_some (count_of c) ts _ (more_of (count_of c) _ (counted s))))
+counted (within.while p q r {b} {ts} {us} {e} {c} f s) = with_body (count_of c) _ (more_of (count_of c) _ (behind_some (count_of c) ts _ (more_of (count_of c) _ (counted s))))
+counted (within.for p q r z {b} {ts} {us} {vs} {ws} {start} {step} {c} {t} {e} a g d s) =
+    subst (λ (l : ℕ). count_of (followed start (While t e step c Done)) ≤ suc (suc l)) (sym (for_length (at r signs.Semicolon) (at z signs.Close) ts us vs ws))
+    (with_loop (count_of (followed start (While t e step c Done))) (count_of start) (count_of step) (count_of c) (length ts) (length us) (length vs) (length ws)
+    (count-followed start (While t e step c Done)) (clause_counted a) (clause_counted d) (counted s))
 counted (within.if_then p q r {b} {ts} {us} {e} {c} f s) = with_none (count_of c) _ (more_of (count_of c) _ (behind_some (count_of c) ts _ (more_of (count_of c) _ (counted s))))
 counted (within.if_else p q r t {b} {ts} {us} {vs} {e} {c} {d} f s u) =
     with_two (count_of c) (count_of d) _

@@ -41,7 +41,7 @@ count_of (Assign p x e rest) = suc (count_of rest)
 count_of (Input p x rest) = suc (count_of rest)
 count_of (Assert p e rest) = suc (count_of rest)
 count_of (If p e a b rest) = suc (count_of a + (count_of b + count_of rest))
-count_of (While p e a rest) = suc (count_of a + count_of rest)
+count_of (While p e a b rest) = suc (count_of a + (count_of b + count_of rest))
 count_of (Block p a rest) = suc (count_of a + count_of rest)
 count_of (Skip p rest) = suc (count_of rest)
 count_of (Cond n a b rest) = suc (count_of a + (count_of b + count_of rest))
@@ -69,8 +69,8 @@ front-Assert p e rest = rw (front_out, outs-Assert) refl
 front-If : (p : Place) (e : Expr) (v w : Vec Stmt Global) (rest : Code) → front (variant.If p e v w) rest ≡ If p (term e) (code v.items) (code w.items) rest
 front-If p e v w rest = rw (front_out, outs-If) refl
 
-front-While : (p : Place) (e : Expr) (v : Vec Stmt Global) (rest : Code) → front (variant.While p e v) rest ≡ While p (term e) (code v.items) rest
-front-While p e v rest = rw (front_out, outs-While) refl
+front-While : (p : Place) (e : Expr) (v w : Vec Stmt Global) (rest : Code) → front (variant.While p e v w) rest ≡ While p (term e) (code v.items) (code w.items) rest
+front-While p e v w rest = rw (front_out, outs-While) refl
 
 front-Block : (p : Place) (v : Vec Stmt Global) (rest : Code) → front (variant.Block p v) rest ≡ Block p (code v.items) rest
 front-Block p v rest = rw (front_out, outs-Block) refl
@@ -113,11 +113,11 @@ chosen p e a b rest t x j y k r = record {
   few = behind_two (length r.list) (count_of a) (count_of b) (count_of rest) r.few;
 }
 
-looped : (p : Place) (e : Term) (a rest : Code) → HasExpr e → HasList a → count_of a < 2 ^ 63 → HasList rest → HasList (While p e a rest)
-looped p e a rest t x j r = record {
-  list = variant.While p t.made (vec a x j) ∷ r.list;
-  is = front-While p t.made (vec a x j) (code r.list) ∙ (λ i. While p (t.is i) (x.is i) (r.is i));
-  few = behind_one (length r.list) (count_of a) (count_of rest) r.few;
+looped : (p : Place) (e : Term) (a b rest : Code) → HasExpr e → HasList a → count_of a < 2 ^ 63 → HasList b → count_of b < 2 ^ 63 → HasList rest → HasList (While p e a b rest)
+looped p e a b rest t x j y k r = record {
+  list = variant.While p t.made (vec a x j) (vec b y k) ∷ r.list;
+  is = front-While p t.made (vec a x j) (vec b y k) (code r.list) ∙ (λ i. While p (t.is i) (x.is i) (y.is i) (r.is i));
+  few = behind_two (length r.list) (count_of a) (count_of b) (count_of rest) r.few;
 }
 
 braced : (p : Place) (a rest : Code) → HasList a → count_of a < 2 ^ 63 → HasList rest → HasList (Block p a rest)
@@ -148,7 +148,9 @@ list_of (Assert p e rest) lt = asserted p e rest (expr_of e) (list_of rest (of_o
 list_of (If p e a b rest) lt =
     let k = of_three (count_of a) (count_of b) (count_of rest) (2 ^ 63) lt in
     chosen p e a b rest (expr_of e) (list_of a k.0) k.0 (list_of b k.1) k.1 (list_of rest k.2)
-list_of (While p e a rest) lt = let k = of_two (count_of a) (count_of rest) (2 ^ 63) lt in looped p e a rest (expr_of e) (list_of a k.0) k.0 (list_of rest k.1)
+list_of (While p e a b rest) lt =
+    let k = of_three (count_of a) (count_of b) (count_of rest) (2 ^ 63) lt in
+    looped p e a b rest (expr_of e) (list_of a k.0) k.0 (list_of b k.1) k.1 (list_of rest k.2)
 list_of (Block p a rest) lt = let k = of_two (count_of a) (count_of rest) (2 ^ 63) lt in braced p a rest (list_of a k.0) k.0 (list_of rest k.1)
 list_of (Skip p rest) lt = skipped p rest (list_of rest (of_one (count_of rest) (2 ^ 63) lt))
 list_of (Cond n a b rest) lt = let k = of_three (count_of a) (count_of b) (count_of rest) (2 ^ 63) lt in grouped n a b rest (list_of a k.0) k.0 (list_of b k.1) k.1 (list_of rest k.2)

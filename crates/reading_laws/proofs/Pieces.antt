@@ -1,15 +1,16 @@
 -- The items of `main` as pieces: declarations, groups, blocks, and items between them that declare nothing.
-use Rattle.std.proofs.Common.{◌≡◌, ℕ, Bool, true, false, List, [], ◌∷◌, ◌++◌, refl}
+use Rattle.std.proofs.Common.{◌≡◌, ℕ, Bool, true, false, List, [], ◌∷◌, ◌++◌, refl, subst}
 use Rattle.fam_outer.specs.declared.faults.Place.{Place}
 use Rattle.c_tree.specs.declared.lists.Guard.{Guard}
 use Rattle.c_tree.specs.declared.lists.Declared.{Declared}
 use Rattle.c_tree.specs.Tree.{Code}
 use Rattle.c_grammar.specs.declared.items.Item.{Item}
 use Rattle.c_grammar.specs.declared.items.Sign.TheVariants as signs
-use Rattle.c_grammar.specs.Grammar.{at, Update, Sum, Difference, Product, Quotient, Remainder, update_sign, Count, Raise, Lower, count_sign, Qualifier, Qualified, Shape, Listed, Stated, Chained, Locals, Writes, none, more, choice, local, last_local, next_local, ends, otherwise, elif, assign, input, call, void_call, update, count, prefix_count, assert, skip, block, while, if_then, if_else, with_true, with_false}
+use Rattle.c_grammar.specs.Grammar.{at, Qualifier, Qualified, Shape, Listed, Stated, Chained, Locals, Writes, none, more, choice, local, last_local, next_local, ends, otherwise, elif, change, call, void_call, assert, skip, block, while, for, if_then, if_else, with_true, with_false}
 use Rattle.c_grammar.specs.LocalsOf.{locals_in, of_kind, scope_in, constant_scope_in}
 use Rattle.c_grammar.proofs.ScopingBlocks.{IsBalanced, balanced_both, code_balanced}
-use Rattle.c_parser.proofs.Stretches.{are_calm, calm_both, expression_calm, function_calm}
+use Rattle.c_grammar.proofs.Keeping.{for_head, for_is}
+use Rattle.c_parser.proofs.Stretches.{are_calm, calm_both, expression_calm, function_calm, change_calm, header_calm}
 
 -- a piece within guards, or what closes a group, with the declarators in it that are in scope behind it, and those of constants among them
 pub data Piece : (later : Bool) → List Guard → List Item → List Declared → List Declared → Type 0 where
@@ -29,17 +30,6 @@ PieceOf (Stated b) {ts} gs s = Piece false gs ts [] []
 PieceOf Chained {ts} gs s = Piece true gs ts (scope_in gs s) (constant_scope_in gs s)
 PieceOf (Locals kind) gs s = Unit {0}
 
-update_calm : (u : Update) (p : Place) → are_calm (at p (update_sign u) ∷ []) ≡ true
-update_calm Sum p = refl
-update_calm Difference p = refl
-update_calm Product p = refl
-update_calm Quotient p = refl
-update_calm Remainder p = refl
-
-count_calm : (u : Count) (p : Place) → are_calm (at p (count_sign u) ∷ []) ≡ true
-count_calm Raise p = refl
-count_calm Lower p = refl
-
 -- behind the head of a statement, which declares nothing
 behind : {us : List Item} (gs : List Guard) (ts : List Item) → are_calm ts ≡ true → IsBalanced us → Piece false gs us [] [] → Piece false gs (ts ++ us) [] []
 behind gs ts c b s = both gs (calm gs ts c) b s
@@ -58,24 +48,18 @@ piece_of gs (next_local p d v) = tt
 piece_of gs (ends p) = end_group gs p
 piece_of gs (otherwise p q s) = else_group gs p q (piece_of gs s)
 piece_of gs (elif p n s t) = elif_group gs p n (piece_of (with_true gs n) s) (code_balanced t) (piece_of (with_false gs n) t)
-piece_of gs (assign p q r x {ts} e) = calm gs (at p (signs.Name x) ∷ at q signs.Equals ∷ (ts ++ at r signs.Semicolon ∷ [])) (calm_both ts (at r signs.Semicolon ∷ []) (expression_calm e) refl)
-piece_of gs (input p q r s t u x {f} g) =
-    calm gs (at p (signs.Name x) ∷ at q signs.Equals ∷ at r f ∷ at s signs.Open ∷ at t signs.Close ∷ at u signs.Semicolon ∷ []) (function_calm r (at s signs.Open ∷ at t signs.Close ∷ at u signs.Semicolon ∷ []) g refl)
+piece_of gs (change r {ts} s) = calm gs (ts ++ at r signs.Semicolon ∷ []) (calm_both ts (at r signs.Semicolon ∷ []) (change_calm s) refl)
 piece_of gs (call p q r s {f} g) =
     calm gs (at p f ∷ at q signs.Open ∷ at r signs.Close ∷ at s signs.Semicolon ∷ []) (function_calm p (at q signs.Open ∷ at r signs.Close ∷ at s signs.Semicolon ∷ []) g refl)
 piece_of gs (void_call p q r s t u v {f} g) =
     calm gs (at p signs.Open ∷ at q signs.Void ∷ at r signs.Close ∷ at s f ∷ at t signs.Open ∷ at u signs.Close ∷ at v signs.Semicolon ∷ []) (function_calm s (at t signs.Open ∷ at u signs.Close ∷ at v signs.Semicolon ∷ []) g refl)
-piece_of gs (update p q r x u {ts} e) =
-    calm gs (at p (signs.Name x) ∷ at q (update_sign u) ∷ (ts ++ at r signs.Semicolon ∷ []))
-    (calm_both (at q (update_sign u) ∷ []) (ts ++ at r signs.Semicolon ∷ []) (update_calm u q) (calm_both ts (at r signs.Semicolon ∷ []) (expression_calm e) refl))
-piece_of gs (count p q r x u) = calm gs (at p (signs.Name x) ∷ at q (count_sign u) ∷ at r signs.Semicolon ∷ []) (calm_both (at q (count_sign u) ∷ []) (at r signs.Semicolon ∷ []) (count_calm u q) refl)
-piece_of gs (prefix_count p q r x u) =
-    calm gs (at p (count_sign u) ∷ at q (signs.Name x) ∷ at r signs.Semicolon ∷ []) (calm_both (at p (count_sign u) ∷ []) (at q (signs.Name x) ∷ at r signs.Semicolon ∷ []) (count_calm u p) refl)
 piece_of gs (assert p q r s {ts} e) =
     calm gs (at p signs.Assert ∷ at q signs.Open ∷ (ts ++ at r signs.Close ∷ at s signs.Semicolon ∷ [])) (calm_both ts (at r signs.Close ∷ at s signs.Semicolon ∷ []) (expression_calm e) refl)
 piece_of gs (skip p) = calm gs (at p signs.Semicolon ∷ []) refl
 piece_of gs (block p q s) = enclosed gs p q (piece_of gs s)
 piece_of gs (while p q r {b} {ts} e s) = behind_condition gs (at p signs.While ∷ at q signs.Open ∷ ts) r (expression_calm e) (code_balanced s) (piece_of gs s)
+piece_of gs (for p q r z {b} {ts} {us} {vs} {ws} a t d s) =
+    subst (λ (l : List Item). Piece false gs l [] []) (for_is p q r z ts us vs ws) (behind gs (for_head p q r z ts us vs) (header_calm p q r z a t d) (code_balanced s) (piece_of gs s))
 piece_of gs (if_then p q r {b} {ts} e s) = behind_condition gs (at p signs.If ∷ at q signs.Open ∷ ts) r (expression_calm e) (code_balanced s) (piece_of gs s)
 piece_of gs (if_else p q r z {b} {ts} {us} {vs} e s t) =
     behind_condition gs (at p signs.If ∷ at q signs.Open ∷ ts) r (expression_calm e) (balanced_both us (at z signs.Else ∷ vs) (code_balanced s) (code_balanced t))

@@ -101,7 +101,7 @@ fn programs(rt: HostRuntime) -> Result<(), Fail> {
         ),
         (
             "extern int input(void); int input(); int x = -5, y;\nint main() { x = input(); while (x < 3) { y = +x; } return 7; }",
-            "Program { names: Names { list: [Text { bytes: [120] }, Text { bytes: [121] }] }, start: Values { list: [-5, 0] }, declared: Declarations { list: [] }, body: [Input { place: Place { line: 2, column: 14 }, target: 0 }, While { place: Place { line: 2, column: 27 }, test: Binary(Lt, Var(0), Number(3)), body: [Block { place: Place { line: 2, column: 41 }, body: [Assign { place: Place { line: 2, column: 43 }, target: 1, value: Var(0) }] }] }, Skip { place: Place { line: 2, column: 53 } }], end: Place { line: 2, column: 63 } }",
+            "Program { names: Names { list: [Text { bytes: [120] }, Text { bytes: [121] }] }, start: Values { list: [-5, 0] }, declared: Declarations { list: [] }, body: [Input { place: Place { line: 2, column: 14 }, target: 0 }, While { place: Place { line: 2, column: 27 }, test: Binary(Lt, Var(0), Number(3)), step: [], body: [Block { place: Place { line: 2, column: 41 }, body: [Assign { place: Place { line: 2, column: 43 }, target: 1, value: Var(0) }] }] }, Skip { place: Place { line: 2, column: 53 } }], end: Place { line: 2, column: 63 } }",
         ),
         (
             "#include <assert.h>\n/* one\n#if */ static int defined; // two\nint main(void) { assert(defined == 0); }",

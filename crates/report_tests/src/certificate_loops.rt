@@ -16,35 +16,45 @@ fn at(line: u32) -> Place {
     Place { line, column: 1 }
 }
 
-/// `while (1) { .. }`, alone.
-fn looping(alloc: Global, line: u32, body: Vec<Stmt>) -> Result<Vec<Stmt>, NoMemory> {
+/// A loop with the test `1`, alone.
+fn stepping(
+    alloc: Global,
+    line: u32,
+    step: Vec<Stmt>,
+    body: Vec<Stmt>,
+) -> Result<Vec<Stmt>, NoMemory> {
     let test = Expr::Number(1);
     let one = Stmt::While {
         place: at(line),
         test,
+        step,
         body,
     };
     Ok(vec![in alloc; one]?)
 }
 
-/// A loop in a loop in the lines 2 and 3, an `if` with a loop in its `else` in the lines 5 and 6, and a group with a loop in each
-/// part, in the lines 8 and 10, the last in a block.
+/// `while (1) ;`, alone.
+fn looping(alloc: Global, line: u32) -> Result<Vec<Stmt>, NoMemory> {
+    stepping(alloc, line, Vec::new(alloc), Vec::new(alloc))
+}
+
+/// A loop in line 2 with a loop in its step in line 3 and one in its body in line 4, an `if` with a loop in its `else` in the lines
+/// 5 and 6, and a group with a loop in each part, in the lines 8 and 10, the last in a block.
 fn family(alloc: Global) -> Result<Program, NoMemory> {
-    let inner = looping(alloc, 3, Vec::new(alloc))?;
-    let mut body = looping(alloc, 2, inner)?;
+    let mut body = stepping(alloc, 2, looping(alloc, 3)?, looping(alloc, 4)?)?;
     body.push(Stmt::If {
         place: at(5),
         test: Expr::Number(1),
         yes: Vec::new(alloc),
-        no: looping(alloc, 6, Vec::new(alloc))?,
+        no: looping(alloc, 6)?,
     })?;
     let block = Stmt::Block {
         place: at(9),
-        body: looping(alloc, 10, Vec::new(alloc))?,
+        body: looping(alloc, 10)?,
     };
     body.push(Stmt::Cond {
         number: 0,
-        yes: looping(alloc, 8, Vec::new(alloc))?,
+        yes: looping(alloc, 8)?,
         no: vec![in alloc; block]?,
     })?;
     Ok(Program {
@@ -62,7 +72,7 @@ fn loops_stand_in_the_order_of_the_text(rt: HostRuntime) -> Result<(), Fail> {
     let found = loop_places(rt.alloc(), &code)?;
     assert_eq!(rt;
         found.as_slice(),
-        [at(2), at(3), at(6), at(8), at(10)].as_slice()
+        [at(2), at(3), at(4), at(6), at(8), at(10)].as_slice()
     );
     Ok(())
 }

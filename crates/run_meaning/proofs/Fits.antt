@@ -73,10 +73,11 @@ IsFit-step_of mode inputs (Assert place test rest) store taken g h p k =
     keeps-with_value _ place (value_of test store mode) _ (record { names = h; plain = p; ints = k }) (λ n e. keeps-cond _ (is_zero n) _ _ (record { names = h; plain = p; ints = k }) (record { names = h.1; plain = p; ints = k }))
 IsFit-step_of mode inputs (If place test a b rest) store taken g h p k =
     keeps-with_value _ place (value_of test store mode) _ (record { names = h; plain = p; ints = k }) (λ n e. IsFit-side (is_zero n) b a rest store taken h.2 p.1 h.1 p.0 h.3 p.2 k)
-IsFit-step_of mode inputs (While place test body rest) store taken g h p k =
+IsFit-step_of mode inputs (While place test step body rest) store taken g h p k =
+    let again = While place test step body rest in
     keeps-with_value _ place (value_of test store mode) _ (record { names = h; plain = p; ints = k }) (λ n e. IsFit-cond (is_zero n) _ _ store taken
-    (record { names = h.2; plain = p.1; ints = k })
-    (record { names = IsCodeOf-followed (length store) body (While place test body rest) h.1 h; plain = IsPlain-followed body (While place test body rest) p.0 p; ints = k }))
+    (record { names = h.3; plain = p.2; ints = k })
+    (IsFit-before body (followed step again) store taken h.2 p.1 (IsCodeOf-followed (length store) step again h.1 h) (IsPlain-followed step again p.0 p) k))
 IsFit-step_of mode inputs (Block place body rest) store taken g h p k =
     record { names = IsCodeOf-followed (length store) body rest h.0 h.1; plain = IsPlain-followed body rest p.0 p.1; ints = k }
 IsFit-step_of mode inputs (Skip place rest) store taken g h p k = record { names = h; plain = p; ints = k }

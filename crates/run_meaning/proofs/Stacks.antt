@@ -6,7 +6,7 @@ use Rattle.c_tree.specs.Tree.{Code, Done, followed}
 use Rattle.c_tree.specs.View.{front, code}
 use Rattle.std.proofs.lemmas.List.{reverse-append}
 use Rattle.std.proofs.lemmas.Option.{slice_get-get_or}
-use Rattle.c_tree.proofs.Views.{followed-front, followed-Done}
+use Rattle.c_tree.proofs.Views.{followed-front, followed-Done, followed_assoc, code-append}
 use Rattle.run_meaning.specs.View.{stacked, pile, below}
 
 -- more on a stack comes before it
@@ -53,6 +53,9 @@ unfolding pile
 pile-reverse ys = stacked-reverse ys Done ∙ followed-Done (code ys)
 
 pub ruleset piles = (pile-reverse)
+
+-- a list behind another
+pub ruleset laps = (code-append, followed_assoc)
 
 -- the last statement of a stack is on top, and a stack without one is empty
 pub head_is : (r : Option (Bor Stmt)) (xs : List Stmt) → option_copied r ≡ slice_get xs (length xs - 1) → MatchOption r (pile xs ≡ Done) (λ s. pile xs ≡ front s.now (below xs))

@@ -279,12 +279,17 @@ fn plan_for(
             }
             Err(kind) => Ok(Plan::Stop(*place, kind)),
         },
-        Stmt::While { place, test, body } => match value(test, store, mode) {
+        Stmt::While {
+            place,
+            test,
+            step,
+            body,
+        } => match value(test, store, mode) {
             Ok(n) => {
                 if n == 0 {
                     Ok(Plan::Pass)
                 } else {
-                    Ok(Plan::Again(copy_list(alloc, body)?))
+                    Ok(Plan::Again(lap(alloc, body, step)?))
                 }
             }
             Err(kind) => Ok(Plan::Stop(*place, kind)),
@@ -293,6 +298,18 @@ fn plan_for(
         Stmt::Skip { place: _ } => Ok(Plan::Pass),
         Stmt::Cond { .. } => unreachable!(),
     }
+}
+
+/// A copy of what a loop does before its test comes again: its body, and then its step.
+#[tactic(auto, using(crate::proofs::Stacks::laps))]
+fn lap(alloc: Global, body: &[Stmt], step: &[Stmt]) -> Result<Vec<Stmt>, NoMemory>
+    ensures { IfOk result (λ made. (rest : Code)
+        → followed (code made.items) rest ≡ followed (code body.now) (followed (code step.now) rest)) }
+{
+    let mut made = copy_list(alloc, body)?;
+    let mut after = copy_list(alloc, step)?;
+    made.append(&mut after)?;
+    Ok(made)
 }
 
 fn input_at(inputs: &[i64], taken: u64) -> Option<i64>

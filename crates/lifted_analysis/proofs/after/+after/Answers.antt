@@ -100,10 +100,11 @@ after_stmt-returns-in_ok-last-in-While-clause-lifted g t c =
     let w = c.in-While in
     let t = plain c.args.t.now in
     then_made value family c.stepped-in-While.result c.args.tables.now.leaves c.final_tree.new.tables.leaves c.stepped-in-While.new.tables.leaves
-    (final_at M family (term w.test) (code c.deref-in-While.result.now)) _ (after_at M family (front c.args.s.now Done)) t (numbered c.in_ok-last-in-While.last) c.in_ok-last-in-While.ensures.lifted
+    (final_at M family (term w.test) (code c.deref-in-While.result.now) (code c.deref-in-While-2.result.now)) _ (after_at M family (front c.args.s.now Done)) t (numbered c.in_ok-last-in-While.last) c.in_ok-last-in-While.ensures.lifted
     (λ v. let x = value (leaf_of t v) in
-    ap (λ l. assumed M family.options.now.mode (term w.test) false (final_at M family (term w.test) (code l) v x)) c.deref-in-While.ensures.value
-    ∙ after_at-While M family c.args.s.now w.place w.test w.body v x w.is)
+    ap (λ l. assumed M family.options.now.mode (term w.test) false (final_at M family (term w.test) (code l) (code c.deref-in-While-2.result.now) v x)) c.deref-in-While.ensures.value
+    ∙ (ap (λ l. assumed M family.options.now.mode (term w.test) false (final_at M family (term w.test) (code w.step.items) (code l) v x)) c.deref-in-While-2.ensures.value
+    ∙ after_at-While M family c.args.s.now w.place w.test w.step w.body v x w.is))
     c.stepped-in-While.ensures
 
 pub after_stmt-returns-in-Skip-clause-lifted : goal.after_stmt-returns-in-Skip-clause-lifted
@@ -136,8 +137,8 @@ final_tree-returns-then-is_nothing_everywhere-clause-lifted g t c =
     let M = g.L.Leaf.meaning in
     let family = c.args.family.now in
     let forest = c.args.tables.now.leaves in
-    shared_made value family c.share.result forest (final_at M family (term c.args.the_loop.now.test.now) (code c.args.the_loop.now.body.now)) (numbered c.args.t.now) c.requires.state
-    (nothing_ends value family M g.met.L.Leaf.laws (c.transfer_is_sound.ensures.answers family.options.now.mode) c.requires.family forest (numbered c.args.t.now) (term c.args.the_loop.now.test.now) (code c.args.the_loop.now.body.now) c.requires.state (c.is_nothing_everywhere.ensures c.if-is_nothing_everywhere.true))
+    shared_made value family c.share.result forest (final_at M family (term c.args.the_loop.now.test.now) (code c.args.the_loop.now.step.now) (code c.args.the_loop.now.body.now)) (numbered c.args.t.now) c.requires.state
+    (nothing_ends value family M g.met.L.Leaf.laws (c.transfer_is_sound.ensures.answers family.options.now.mode) c.requires.family forest (numbered c.args.t.now) (term c.args.the_loop.now.test.now) (code c.args.the_loop.now.step.now) (code c.args.the_loop.now.body.now) c.requires.state (c.is_nothing_everywhere.ensures c.if-is_nothing_everywhere.true))
     c.share.ensures
 
 pub final_by_rounds-loop-k-init : goal.final_by_rounds-loop-k-init
@@ -290,7 +291,7 @@ pub final_tree-returns-in-Some-clause-lifted : goal.final_tree-returns-in-Some-c
 final_tree-returns-in-Some-clause-lifted g t c =
     let family = c.args.family.now in
     let key : Entered = record { place = c.args.the_loop.now.place; number = c.number.result } in
-    recalled_made g.L.Leaf.value g.L.Leaf.meaning family c.share-in-Some.result c.args.tables.now.leaves c.args.finals.now key c.in-Some.last.now (numbered c.args.t.now) (term c.args.the_loop.now.test.now) (code c.args.the_loop.now.body.now)
+    recalled_made g.L.Leaf.value g.L.Leaf.meaning family c.share-in-Some.result c.args.tables.now.leaves c.args.finals.now key c.in-Some.last.now (numbered c.args.t.now) (term c.args.the_loop.now.test.now) (code c.args.the_loop.now.step.now) (code c.args.the_loop.now.body.now)
     c.requires.memory (search rules) (sym c.number.ensures.number) c.requires.state c.requires.own.here c.share-in-Some.ensures
 
 pub final_tree-returns-clause-memory : goal.final_tree-returns-clause-memory
@@ -299,7 +300,7 @@ final_tree-returns-clause-memory g t c =
     let key : Entered = record { place = c.args.the_loop.now.place; number = c.number.result } in
     let last = c.in_ok-last.ensures in
     remembered g.L.Leaf.value g.L.Leaf.meaning family c.args.tables.now.leaves c.final_by_rounds.new.tables.leaves c.final_by_rounds.new.finals _ key c.in_ok-kept.kept (numbered c.args.t.now) (numbered c.in_ok-last.last)
-    (term c.args.the_loop.now.test.now) (code c.args.the_loop.now.body.now) last.memory (sym c.number.ensures.number) c.requires.state c.requires.own.here last.lifted c.in_ok-kept.ensures c.in_ok-remember.ensures
+    (term c.args.the_loop.now.test.now) (code c.args.the_loop.now.step.now) (code c.args.the_loop.now.body.now) last.memory (sym c.number.ensures.number) c.requires.state c.requires.own.here last.lifted c.in_ok-kept.ensures c.in_ok-remember.ensures
 
 pub narrowed-returns-clause-memory : goal.narrowed-returns-clause-memory
 narrowed-returns-clause-memory g t c =
@@ -384,11 +385,12 @@ head_at-returns-clause-keeps g t c =
     let a = c.args.tables.now.leaves in
     let b = c.stepped.new.tables.leaves in
     let d = c.after_list.new.tables.leaves in
-    keeps_both a d c.joined.new.tables.leaves (keeps_both a b d c.in_ok-inside.ensures.keeps c.in_ok-end.ensures.lifted.keeps) c.in_ok-next.ensures.keeps
+    let e = c.after_list-2.new.tables.leaves in
+    keeps_both a e c.joined.new.tables.leaves (keeps_both a d e (keeps_both a b d c.in_ok-inside.ensures.keeps c.in_ok-behind.ensures.lifted.keeps) c.in_ok-again.ensures.lifted.keeps) c.in_ok-next.ensures.keeps
 
 pub head_at-returns-clause-memory : goal.head_at-returns-clause-memory
 head_at-returns-clause-memory g t c =
-    memory_stays g.L.Leaf.value g.L.Leaf.meaning c.args.family.now c.after_list.new.tables.leaves c.joined.new.tables.leaves c.after_list.new.finals c.in_ok-next.ensures.keeps c.in_ok-end.ensures.memory
+    memory_stays g.L.Leaf.value g.L.Leaf.meaning c.args.family.now c.after_list-2.new.tables.leaves c.joined.new.tables.leaves c.after_list-2.new.finals c.in_ok-next.ensures.keeps c.in_ok-again.ensures.memory
 
 pub narrowed-returns-then-number-clause-memory : goal.narrowed-returns-then-number-clause-memory
 narrowed-returns-then-number-clause-memory g t c =

@@ -61,16 +61,16 @@ abbrev pub decreases-after_group : goal.decreases-after_group
 decreases-after_group g l = 8 * (size_of (code l.yes.now) + size_of (code l.no.now)) + 3
 
 abbrev pub decreases-head_at : goal.decreases-head_at
-decreases-head_at g l = 8 * size_of (code l.the_loop.now.body.now) + 2
+decreases-head_at g l = 8 * (size_of (code l.the_loop.now.step.now) + size_of (code l.the_loop.now.body.now)) + 2
 
 abbrev pub decreases-widened : goal.decreases-widened
-decreases-widened g l = 8 * size_of (code l.the_loop.now.body.now) + 3
+decreases-widened g l = 8 * (size_of (code l.the_loop.now.step.now) + size_of (code l.the_loop.now.body.now)) + 3
 
 abbrev pub decreases-narrowed : goal.decreases-narrowed
-decreases-narrowed g l = 8 * size_of (code l.the_loop.now.body.now) + 3
+decreases-narrowed g l = 8 * (size_of (code l.the_loop.now.step.now) + size_of (code l.the_loop.now.body.now)) + 3
 
 abbrev pub decreases-final_by_rounds : goal.decreases-final_by_rounds
-decreases-final_by_rounds g l = 8 * size_of (code l.the_loop.now.body.now) + 4
+decreases-final_by_rounds g l = 8 * (size_of (code l.the_loop.now.step.now) + size_of (code l.the_loop.now.body.now)) + 4
 
 abbrev pub decreases-final_tree : goal.decreases-final_tree
-decreases-final_tree g l = 8 * size_of (code l.the_loop.now.body.now) + 5
+decreases-final_tree g l = 8 * (size_of (code l.the_loop.now.step.now) + size_of (code l.the_loop.now.body.now)) + 5

@@ -47,7 +47,7 @@ enter_list-requires-clause-memory g c =
     let started : (v : List Bool) → value (leaf_of (plain c.in_ok-start.start) v) ≡ start_at M family p.start p.declared v =
     λ v. c.in_ok-start.ensures.at_each v ∙ ap (λ l. start_at M family l p.declared v) c.items.ensures in
     record {
-      memory = memory_empty value M family _ _ c.new-4.ensures.empty;
+      memory = memory_empty value M family _ _ c.new.ensures.empty;
       ruled = rule_known value M family c.args.is_given c.start_tree.new.tables.leaves c.in_ok-start.start c.in_ok-rule.rule c.in_ok-rule.ensures c.in_ok-start.ensures.state
           (λ v. subst M.valid (sym (started v)) (start_valid value family M g.met.L.Leaf.laws (sound.answers family.options.now.mode) (sound.nothing family.options.now.mode) p c.requires.program c.requires.count v));
     }
@@ -74,7 +74,7 @@ returns g c =
     λ v. rule_heads value M family c.args.is_given c.in_ok-start.start r v (start_at M family p.start p.declared v) c.in_ok-rule.ensures (started v) in
     noted_made value family M laws A N p c.requires.program c.requires.count
     (heads_in value M family r (plain c.in_ok-here.here)) (λ v. chosen_heads M family c.args.is_given v (start_at M family p.start p.declared v))
-    (record { places = c.new.result; alarms = c.new-2.result; turns = c.new-3.result }) c.enter_list.new.noted c.add_end.new.noted (code c.deref.result.now) (plain c.in_ok-start.start) (plain c.in_ok-tree.tree)
+    c.new-noted.result c.enter_list.new.noted c.add_end.new.noted (code c.deref.result.now) (plain c.in_ok-start.start) (plain c.in_ok-tree.tree)
     (λ v. ap (λ t. heads_where (leaf_of t v) (ruled_heads value M family r v)) c.in_ok-here.ensures.same ∙ same v)
     (λ v. subst (λ G. AreFit M family.options.now.mode (length p.names) G) (same v) (subst (λ n. AreFit M family.options.now.mode n (ruled_heads value M family r v)) c.requires.count (ruled_fit value M family laws A c.start_tree.new.tables.leaves r v known c.requires.family.bounds)))
-    (ap code c.deref.ensures.value) c.new.ensures.items c.new-2.ensures.items c.new-3.ensures.items c.in_ok-tree.ensures.entered started c.in_ok-tree.ensures.lifted.at_each c.in_ok-add_end.ensures
+    (ap code c.deref.ensures.value) c.new-noted.ensures.places c.new-noted.ensures.alarms c.new-noted.ensures.turns c.in_ok-tree.ensures.entered started c.in_ok-tree.ensures.lifted.at_each c.in_ok-add_end.ensures

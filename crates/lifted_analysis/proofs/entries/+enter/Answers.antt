@@ -14,14 +14,14 @@ use Rattle.plain_analysis.proofs.Sizes.{size-at}
 use Rattle.plain_analysis.proofs.StatedLemmas.{loops-at}
 use Rattle.plain_analysis.specs.Stated.{HasLoopsOf}
 use Rattle.plain_analysis.specs.Statements.{Heads}
-use Rattle.lifted_analysis.specs.Entries.{Visit, visits_at, entered_with, entered_sides, entered_group, entered_loop, HasEntered}
-use Rattle.lifted_analysis.specs.Rules.{heads_where, heads_in, ruled_heads, passed_with, sides_with, group_with, head_with}
+use Rattle.lifted_analysis.specs.Entries.{Visit, visits_at, entered_with, entered_sides, entered_group, entered_lap, entered_loop, HasEntered}
+use Rattle.lifted_analysis.specs.Rules.{heads_where, heads_in, ruled_heads, passed_with, sides_with, group_with, lap_with, head_with}
 use Rattle.lifted_analysis.specs.States.{IsLifted, truths_in}
 use Rattle.lifted_analysis.specs.Steps.{kept_by}
 use Rattle.lifted_analysis.proofs.StateLemmas.{state_stays, state_sized, counted, lifted_then, lifted_as}
 use Rattle.lifted_analysis.proofs.WalkLemmas.{passed_with-more, passed_with-While, passed_with-Cond, sides_join, heads_within, lifted_by, lifted_longer, known_stays, known_same, known_lifted, known_joint}
 use Rattle.lifted_analysis.proofs.AfterLemmas.{front-Skip, shared_made, then_made, as_made, both_made}
-use Rattle.lifted_analysis.proofs.EntryLemmas.{entered_then, entered_as, loop_entered, turns_before, visits_at-more, visits_at-If, visits_at-While, visits_at-Block}
+use Rattle.lifted_analysis.proofs.EntryLemmas.{entered_then, entered_as, entered_behind, loop_entered, turns_before, visits_at-more, visits_at-If, visits_at-While, visits_at-Block}
 use Rattle.lifted_analysis.proofs.entries.+enter.Goals as goal
 
 pub enter_group-returns-clause-lifted : goal.enter_group-returns-clause-lifted
@@ -314,10 +314,11 @@ enter_stmt-returns-in_ok-head-in-While-clause-lifted g t c =
     let w = c.in-While in
     let t = plain c.args.t.now in
     then_made value family c.stepped-in-While.result c.args.tables.now.leaves c.enter_loop.new.tables.leaves c.stepped-in-While.new.tables.leaves
-    (head_with M family H w.place (term w.test) (code c.deref-in-While.result.now)) (λ v. assumed M family.options.now.mode (term w.test) false) (passed_with M family H (front c.args.s.now Done)) t (numbered c.in_ok-head-in-While.head) c.in_ok-head-in-While.ensures.lifted
+    (head_with M family H w.place (term w.test) (code c.deref-in-While.result.now) (code c.deref-in-While-2.result.now)) (λ v. assumed M family.options.now.mode (term w.test) false) (passed_with M family H (front c.args.s.now Done)) t (numbered c.in_ok-head-in-While.head) c.in_ok-head-in-While.ensures.lifted
     (λ v. let x = value (leaf_of t v) in
-    ap (λ l. assumed M family.options.now.mode (term w.test) false (head_with M family H w.place (term w.test) (code l) v x)) c.deref-in-While.ensures.value
-    ∙ passed_with-While M family H c.args.s.now w.place w.test w.body v x w.is)
+    ap (λ l. assumed M family.options.now.mode (term w.test) false (head_with M family H w.place (term w.test) (code l) (code c.deref-in-While-2.result.now) v x)) c.deref-in-While.ensures.value
+    ∙ (ap (λ l. assumed M family.options.now.mode (term w.test) false (head_with M family H w.place (term w.test) (code w.step.items) (code l) v x)) c.deref-in-While-2.ensures.value
+    ∙ passed_with-While M family H c.args.s.now w.place w.test w.step w.body v x w.is))
     c.stepped-in-While.ensures
 
 pub enter_stmt-returns-in_ok-head-in-While-clause-entered : goal.enter_stmt-returns-in_ok-head-in-While-clause-entered
@@ -331,11 +332,12 @@ enter_stmt-returns-in_ok-head-in-While-clause-entered g t c =
     let s = front c.args.s.now Done in
     let all = entered_with value M family H s t in
     on_ok c.stepped-in-While.result (HasEntered value M family c.args.noted.now c.enter_loop.new.noted all)
-    (entered_as value M family c.args.noted.now c.enter_loop.new.noted (entered_loop value M family H s w.place (term w.test) (code c.deref-in-While.result.now) t) all
+    (entered_as value M family c.args.noted.now c.enter_loop.new.noted (entered_loop value M family H s w.place (term w.test) (code c.deref-in-While.result.now) (code c.deref-in-While-2.result.now) t) all
     (λ v.
     let x = value (leaf_of t v) in
-    ap (λ l. entered_loop value M family H s w.place (term w.test) (code l) t v) c.deref-in-While.ensures.value
-    ∙ visits_at-While M family.options.now.mode (truths_in family.choices.now v) (H v) c.args.s.now w.place w.test w.body x w.is)
+    ap (λ l. entered_loop value M family H s w.place (term w.test) (code l) (code c.deref-in-While-2.result.now) t v) c.deref-in-While.ensures.value
+    ∙ (ap (λ l. entered_loop value M family H s w.place (term w.test) (code w.step.items) (code l) t v) c.deref-in-While-2.ensures.value
+    ∙ visits_at-While M family.options.now.mode (truths_in family.choices.now v) (H v) c.args.s.now w.place w.test w.step w.body x w.is))
     c.in_ok-head-in-While.ensures.entered)
 
 pub enter_stmt-returns-in_ok-head-in-While-clause-memory : goal.enter_stmt-returns-in_ok-head-in-While-clause-memory
@@ -352,8 +354,8 @@ enter_loop-returns-clause-lifted g t c =
     let b = c.head_tree.new.tables.leaves in
     let d = c.enter.new.tables.leaves in
     let e = c.stepped.new.tables.leaves in
-    let z = c.enter_list.new.tables.leaves in
-    lifted_longer value family c.args.tables.now.leaves b z (head_with M family H c.args.the_loop.now.place (term c.args.the_loop.now.test.now) (code c.args.the_loop.now.body.now)) (plain c.args.t.now) (numbered c.in_ok-head.head)
+    let z = c.enter_lap.new.tables.leaves in
+    lifted_longer value family c.args.tables.now.leaves b z (head_with M family H c.args.the_loop.now.place (term c.args.the_loop.now.test.now) (code c.args.the_loop.now.step.now) (code c.args.the_loop.now.body.now)) (plain c.args.t.now) (numbered c.in_ok-head.head)
     (keeps_both b e z (keeps_both b d e (keeps_same b d c.in_ok-enter.ensures.same) c.in_ok-inside.ensures.keeps) c.in_ok-again.ensures.lifted.keeps) c.in_ok-head.ensures.lifted
 
 pub enter_loop-returns-clause-entered : goal.enter_loop-returns-clause-entered
@@ -367,20 +369,22 @@ enter_loop-returns-clause-entered g t c =
     let place = c.args.the_loop.now.place in
     let s = front c.args.s.now Done in
     let e = term c.args.the_loop.now.test.now in
+    let step = code c.args.the_loop.now.step.now in
     let body = code c.args.the_loop.now.body.now in
     let a = c.args.noted.now in
     let b = c.enter.new.noted in
-    let d = c.enter_list.new.noted in
+    let d = c.enter_lap.new.noted in
     let z = c.add_turn.new.noted in
     let x : List Bool → LeafValue = λ v. value (leaf_of (plain c.in_ok-head.head) v) in
     let y : List Bool → LeafValue = λ v. value (leaf_of (plain c.in_ok-inside.inside) v) in
     let k : List Bool → LeafValue = λ v. value (leaf_of (plain c.in_ok-again.again) v) in
     let u : List Bool → LeafValue = λ v. value (leaf_of t v) in
-    let ys = entered_with value M family H body (plain c.in_ok-inside.inside) in
+    let ys = entered_lap value M family H step body (plain c.in_ok-inside.inside) in
     let visits : List Bool → LeafValue → LeafValue → LeafValue → List Visit = λ v h i j.
-    record { place = place; statement = s; leaf = h; turn = Some (u v, j) } ∷ visits_at M mode (truths_in family.choices.now v) (H v) body i in
-    let through : List Bool → LeafValue → LeafValue = λ v i. passed_with M family H body v i in
-    entered_as value M family a z (λ v. visits v (x v) (y v) (k v)) (entered_loop value M family H s place e body t)
+    record { place = place; statement = s; leaf = h; turn = Some (u v, j) }
+    ∷ (visits_at M mode (truths_in family.choices.now v) (H v) step (passed_with M family H body v i) ++ visits_at M mode (truths_in family.choices.now v) (H v) body i) in
+    let through : List Bool → LeafValue → LeafValue = λ v i. lap_with M family H step body v i in
+    entered_as value M family a z (λ v. visits v (x v) (y v) (k v)) (entered_loop value M family H s place e step body t)
     (λ v.
     ap (λ j. visits v (x v) (y v) j) (c.in_ok-again.ensures.lifted.at_each v)
     ∙ (ap (λ i. visits v (x v) i (through v i)) (c.in_ok-inside.ensures.at_each v)
@@ -390,8 +394,8 @@ enter_loop-returns-clause-entered g t c =
 pub enter_loop-returns-clause-memory : goal.enter_loop-returns-clause-memory
 enter_loop-returns-clause-memory g t c = c.in_ok-again.ensures.memory
 
-pub enter_loop-enter_list-requires : goal.enter_loop-enter_list-requires
-enter_loop-enter_list-requires g t c κs within =
+pub enter_loop-enter_lap-requires : goal.enter_loop-enter_lap-requires
+enter_loop-enter_lap-requires g t c κs within =
     let value = g.L.Leaf.value in
     let M = g.L.Leaf.meaning in
     let family = c.args.family.now in
@@ -410,7 +414,7 @@ enter_loop-add_turn-requires-clause-at g t c =
     let M = g.L.Leaf.meaning in
     let family = c.args.family.now in
     let one = turns_before value M family c.args.noted.now c.enter.new.noted _ c.in_ok-enter.ensures.entered in
-    let two = turns_before value M family c.enter.new.noted c.enter_list.new.noted _ c.in_ok-again.ensures.entered in
+    let two = turns_before value M family c.enter.new.noted c.enter_lap.new.noted _ c.in_ok-again.ensures.entered in
     omega (arith, ap length c.as_slice-turns.ensures.value, one, two)
 
 pub enter_loop-add_turn-requires-clause-entered : goal.enter_loop-add_turn-requires-clause-entered
@@ -420,4 +424,36 @@ pub enter_loop-add_turn-requires-clause-head : goal.enter_loop-add_turn-requires
 enter_loop-add_turn-requires-clause-head g t c = state_sized g.L.Leaf.value c.args.family.now c.head_tree.new.tables.leaves (numbered c.in_ok-head.head) c.in_ok-head.ensures.lifted.state
 
 pub enter_loop-add_turn-requires-clause-again : goal.enter_loop-add_turn-requires-clause-again
-enter_loop-add_turn-requires-clause-again g t c = state_sized g.L.Leaf.value c.args.family.now c.enter_list.new.tables.leaves (numbered c.in_ok-again.again) c.in_ok-again.ensures.lifted.state
+enter_loop-add_turn-requires-clause-again g t c = state_sized g.L.Leaf.value c.args.family.now c.enter_lap.new.tables.leaves (numbered c.in_ok-again.again) c.in_ok-again.ensures.lifted.state
+
+pub enter_lap-returns-clause-lifted : goal.enter_lap-returns-clause-lifted
+enter_lap-returns-clause-lifted g t c =
+    let value = g.L.Leaf.value in
+    let M = g.L.Leaf.meaning in
+    let family = c.args.family.now in
+    let H = heads_in value M family c.args.rule.now (plain c.args.here.now) in
+    lifted_then value family c.args.tables.now.leaves c.enter_list.new.tables.leaves c.enter_list-2.new.tables.leaves (passed_with M family H (code c.args.the_loop.now.body.now)) (passed_with M family H (code c.args.the_loop.now.step.now))
+    (plain c.args.t.now) (numbered c.in_ok-behind.behind) (numbered c.in_ok-again.again) c.in_ok-behind.ensures.lifted c.in_ok-again.ensures.lifted
+
+pub enter_lap-returns-clause-entered : goal.enter_lap-returns-clause-entered
+enter_lap-returns-clause-entered g t c =
+    let value = g.L.Leaf.value in
+    let M = g.L.Leaf.meaning in
+    let family = c.args.family.now in
+    let mode = family.options.now.mode in
+    let H = heads_in value M family c.args.rule.now (plain c.args.here.now) in
+    let step = code c.args.the_loop.now.step.now in
+    let body = code c.args.the_loop.now.body.now in
+    let t = plain c.args.t.now in
+    let a = c.args.noted.now in
+    let n = c.new-in_body.result in
+    let b = c.enter_list.new.noted in
+    let d = c.enter_list-2.new.noted in
+    let z = c.append.new.self in
+    let xs = entered_with value M family H step (plain c.in_ok-behind.behind) in
+    let ys = entered_with value M family H body t in
+    entered_then value M family a d z xs ys (entered_lap value M family H step body t)
+    (λ v. ap (λ x. visits_at M mode (truths_in family.choices.now v) (H v) step x ++ ys v) (c.in_ok-behind.ensures.lifted.at_each v))
+    c.in_ok-again.ensures.entered
+    (entered_behind value M family d n b z ys c.new-in_body.ensures.places c.new-in_body.ensures.alarms c.new-in_body.ensures.turns c.in_ok-behind.ensures.entered
+    c.in_ok-append.ensures.places c.in_ok-append.ensures.alarms c.in_ok-append.ensures.turns)

@@ -33,4 +33,7 @@ abbrev pub decreases-enter_group : goal.decreases-enter_group
 decreases-enter_group g l = 4 * (size_of (code l.yes.now) + size_of (code l.no.now)) + 2
 
 abbrev pub decreases-enter_loop : goal.decreases-enter_loop
-decreases-enter_loop g l = 4 * size_of (code l.the_loop.now.body.now) + 2
+decreases-enter_loop g l = 4 * (size_of (code l.the_loop.now.step.now) + size_of (code l.the_loop.now.body.now)) + 3
+
+abbrev pub decreases-enter_lap : goal.decreases-enter_lap
+decreases-enter_lap g l = 4 * (size_of (code l.the_loop.now.step.now) + size_of (code l.the_loop.now.body.now)) + 2

@@ -27,12 +27,15 @@ keep_stmt-returns-in_ok-keep_list-in-If t c =
     let all = kept_if c.args.kept.now.items first second c.args.s.now i.place i.test i.yes i.no yes.result.now others.result.now i.is c.in_ok-keep_term-in-If.ensures yes.ensures.value c.in_ok-keep_list-in-If.ensures others.ensures.value in
     subst (λ l. OnOk c.keep_list-in-If.result (c.keep_list-in-If.new.kept.items ≡ l)) all c.keep_list-in-If.ensures
 
-pub keep_stmt-returns-in_ok-keep_term-in-While : goal.keep_stmt-returns-in_ok-keep_term-in-While
-keep_stmt-returns-in_ok-keep_term-in-While t c =
+pub keep_stmt-returns-in_ok-keep_list-in-While : goal.keep_stmt-returns-in_ok-keep_list-in-While
+keep_stmt-returns-in_ok-keep_list-in-While t c =
     let i = c.in-While in
-    let body = c.deref-in-While in
-    let all = kept_while c.args.kept.now.items c.keep_term-in-While.new.kept.items c.args.s.now i.place i.test i.body body.result.now i.is c.in_ok-keep_term-in-While.ensures body.ensures.value in
-    subst (λ l. OnOk c.keep_list-in-While.result (c.keep_list-in-While.new.kept.items ≡ l)) all c.keep_list-in-While.ensures
+    let first = c.keep_term-in-While.new.kept.items in
+    let second = c.keep_list-in-While.new.kept.items in
+    let step = c.deref-in-While in
+    let body = c.deref-in-While-2 in
+    let all = kept_while c.args.kept.now.items first second c.args.s.now i.place i.test i.step i.body step.result.now body.result.now i.is c.in_ok-keep_term-in-While.ensures step.ensures.value c.in_ok-keep_list-in-While.ensures body.ensures.value in
+    subst (λ l. OnOk c.keep_list-in-While-2.result (c.keep_list-in-While-2.new.kept.items ≡ l)) all c.keep_list-in-While-2.ensures
 
 pub keep_stmt-returns-in_ok-keep_list-in-Cond : goal.keep_stmt-returns-in_ok-keep_list-in-Cond
 keep_stmt-returns-in_ok-keep_list-in-Cond t c =

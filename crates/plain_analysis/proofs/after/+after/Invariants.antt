@@ -4,7 +4,7 @@ use Rattle.c_tree.specs.View.{term, front, code}
 use Rattle.plain_analysis.specs.Finals.{Remembers}
 use Rattle.plain_analysis.specs.Heads.{IsHead}
 use Rattle.plain_analysis.specs.Loops.{rounds_of, widened_leaf, narrowings_of, final_leaf}
-use Rattle.plain_analysis.specs.Statements.{after_of, loop_turn}
+use Rattle.plain_analysis.specs.Statements.{after_of, lap_of, loop_turn}
 use Rattle.plain_analysis.proofs.Sizes.{size_of}
 use Rattle.plain_analysis.proofs.after.+after.Given as goal
 
@@ -24,7 +24,7 @@ invariant-widened-loop-k g l =
     let value = g.L.Leaf.value in
     let M = g.L.Leaf.meaning in
     let o = l.task.options.now in
-    let G = loop_turn M o (term l.the_loop.test.now) (code l.the_loop.body.now) (value l.leaf) in
+    let G = loop_turn M o (term l.the_loop.test.now) (code l.the_loop.step.now) (code l.the_loop.body.now) (value l.leaf) in
     record {
       rest : rounds_of M o.thresholds o.delay G (l.rounds - l.k) l.k (value l.head.at) ≡ widened_leaf M o.thresholds o.delay G (value l.leaf);
       head : IsHead value G (value l.leaf).variables l.head;
@@ -36,9 +36,9 @@ invariant-final_by_rounds-loop-k g l =
     let value = g.L.Leaf.value in
     let M = g.L.Leaf.meaning in
     let o = l.task.options.now in
-    let G = loop_turn M o (term l.the_loop.test.now) (code l.the_loop.body.now) (value l.leaf) in
+    let G = loop_turn M o (term l.the_loop.test.now) (code l.the_loop.step.now) (code l.the_loop.body.now) (value l.leaf) in
     record {
-      rest : narrowings_of M o.thresholds G (o.narrow - l._k) (value l.head.at) ≡ final_leaf M o (term l.the_loop.test.now) (after_of M o (code l.the_loop.body.now)) (value l.leaf);
+      rest : narrowings_of M o.thresholds G (o.narrow - l._k) (value l.head.at) ≡ final_leaf M o (term l.the_loop.test.now) (lap_of M o (code l.the_loop.step.now) (code l.the_loop.body.now)) (value l.leaf);
       head : IsHead value G (value l.leaf).variables l.head;
       memory : Remembers value M l.task l.finals;
     }
@@ -57,19 +57,19 @@ abbrev pub decreases-after_choice : goal.decreases-after_choice
 decreases-after_choice g l = 8 * (size_of (code l.yes.now) + size_of (code l.no.now)) + 2
 
 abbrev pub decreases-turn : goal.decreases-turn
-decreases-turn g l = 8 * size_of (code l.the_loop.now.body.now) + 3
+decreases-turn g l = 8 * (size_of (code l.the_loop.now.step.now) + size_of (code l.the_loop.now.body.now)) + 3
 
 abbrev pub decreases-head_at : goal.decreases-head_at
-decreases-head_at g l = 8 * size_of (code l.the_loop.now.body.now) + 4
+decreases-head_at g l = 8 * (size_of (code l.the_loop.now.step.now) + size_of (code l.the_loop.now.body.now)) + 4
 
 abbrev pub decreases-widened : goal.decreases-widened
-decreases-widened g l = 8 * size_of (code l.the_loop.now.body.now) + 5
+decreases-widened g l = 8 * (size_of (code l.the_loop.now.step.now) + size_of (code l.the_loop.now.body.now)) + 5
 
 abbrev pub decreases-narrowed : goal.decreases-narrowed
-decreases-narrowed g l = 8 * size_of (code l.the_loop.now.body.now) + 5
+decreases-narrowed g l = 8 * (size_of (code l.the_loop.now.step.now) + size_of (code l.the_loop.now.body.now)) + 5
 
 abbrev pub decreases-final_by_rounds : goal.decreases-final_by_rounds
-decreases-final_by_rounds g l = 8 * size_of (code l.the_loop.now.body.now) + 6
+decreases-final_by_rounds g l = 8 * (size_of (code l.the_loop.now.step.now) + size_of (code l.the_loop.now.body.now)) + 6
 
 abbrev pub decreases-final_leaf : goal.decreases-final_leaf
-decreases-final_leaf g l = 8 * size_of (code l.the_loop.now.body.now) + 7
+decreases-final_leaf g l = 8 * (size_of (code l.the_loop.now.step.now) + size_of (code l.the_loop.now.body.now)) + 7

@@ -22,10 +22,13 @@ invariant-enter_list-loop-s g l =
 
 -- the size of the statements, and then the order of the calls
 abbrev pub decreases-enter_stmt : goal.decreases-enter_stmt
-decreases-enter_stmt g l = 3 * size_of (front l.s.now Done)
+decreases-enter_stmt g l = 4 * size_of (front l.s.now Done)
 
 abbrev pub decreases-enter_list : goal.decreases-enter_list
-decreases-enter_list g l = 3 * size_of (code l.list.now) + 1
+decreases-enter_list g l = 4 * size_of (code l.list.now) + 1
 
 abbrev pub decreases-enter_side : goal.decreases-enter_side
-decreases-enter_side g l = 3 * size_of (code l.list.now) + 2
+decreases-enter_side g l = 4 * size_of (code l.list.now) + 2
+
+abbrev pub decreases-enter_lap : goal.decreases-enter_lap
+decreases-enter_lap g l = 4 * (size_of (code l.the_loop.now.step.now) + size_of (code l.the_loop.now.body.now)) + 3

@@ -1,4 +1,3 @@
-use Rattle.std.proofs.Common.{◌*◌, ◌≤◌, ℕ}
 use Rattle.std.proofs.lemmas.Nat.{mul-le}
 use Rattle.plain_analysis.proofs.steps.steps_of_all.Goals as goal
 
