@@ -12,60 +12,60 @@ const COUNTED: &str = "int i;\nint main(void){\nfor(i=0;i<2;i++)\n;\n}\n";
 #[test]
 fn runs_go_part_by_part(rt: HostRuntime) -> Result<(), Fail> {
     let rows = [
-        ("run m f --steps=0", COUNTED, "at 3:5 i=0\n"),
-        ("run m f --steps=1", COUNTED, "at 3:9 i=0\n"),
-        ("run m f --steps=2", COUNTED, "at 4:1 i=0\n"),
-        ("run m f --steps=3", COUNTED, "at 3:13 i=0\n"),
-        ("run m f --steps=4", COUNTED, "at 3:9 i=1\n"),
-        ("run m f --steps=5", COUNTED, "at 4:1 i=1\n"),
-        ("run m f --steps=7", COUNTED, "at 3:9 i=2\n"),
-        ("run m f --steps=8", COUNTED, "ended i=2\n"),
+        ("run m f N=0 --steps=0", COUNTED, "at 3:5 i=0\n"),
+        ("run m f N=0 --steps=1", COUNTED, "at 3:9 i=0\n"),
+        ("run m f N=0 --steps=2", COUNTED, "at 4:1 i=0\n"),
+        ("run m f N=0 --steps=3", COUNTED, "at 3:13 i=0\n"),
+        ("run m f N=0 --steps=4", COUNTED, "at 3:9 i=1\n"),
+        ("run m f N=0 --steps=5", COUNTED, "at 4:1 i=1\n"),
+        ("run m f N=0 --steps=7", COUNTED, "at 3:9 i=2\n"),
+        ("run m f N=0 --steps=8", COUNTED, "ended i=2\n"),
         // all parts may be absent: the test is then 1, at its semicolon
         (
-            "run m f --steps=2",
+            "run m f N=0 --steps=2",
             "int x;\nint main(void){\nfor(;;)x=x+1;\n}\n",
             "at 3:6 x=1\n",
         ),
         (
-            "run m f --steps=3",
+            "run m f N=0 --steps=3",
             "int x;\nint main(void){\nfor(;;)x=x+1;\n}\n",
             "at 3:8 x=1\n",
         ),
         // inputs, and the short forms
         (
-            "run m f --inputs=1,5",
+            "run m f N=0 --inputs=1,5",
             "int x,n;\nint main(void){\nfor(x=input();x<3;x=input())n++;\n}\n",
             "ended x=5 n=1\n",
         ),
         (
-            "run m f",
+            "run m f N=0",
             "int x;\nint main(void){\nfor(++x;x<20;x*=3);\n}\n",
             "ended x=27\n",
         ),
         (
-            "run m f",
+            "run m f N=0",
             "int x=3,s;\nint main(void){\nfor(;x;--x)s+=x;\n}\n",
             "ended x=0 s=6\n",
         ),
         // an `else` belongs to the nearest `if` that it may belong to
         (
-            "run m f",
+            "run m f N=0",
             "int x,y;\nint main(void){\nfor(;x<1;x++)if(x)y=1;else y=2;\n}\n",
             "ended x=1 y=2\n",
         ),
         (
-            "run m f",
+            "run m f N=0",
             "int x,y;\nint main(void){\nif(x)for(y=4;;);else y=3;\n}\n",
             "ended x=0 y=3\n",
         ),
         // a `for` is one statement: what stands before its test belongs to the branch
         (
-            "run m f",
+            "run m f N=0",
             "int x,y=5;\nint main(void){\nif(x)for(y=0;y<3;y++);\n}\n",
             "ended x=0 y=5\n",
         ),
         (
-            "run m f",
+            "run m f N=0",
             "int x,y,n;\nint main(void){\nfor(x=0;x<2;x++)for(y=0;y<3;y++)n++;\n}\n",
             "ended x=2 y=3 n=6\n",
         ),
@@ -119,7 +119,7 @@ fn analyses_go_part_by_part(rt: HostRuntime) -> Result<(), Fail> {
             "famlint certificate 1 stop\nloop 3:9 if 1: x in [0,3]\n",
         ),
         (
-            "project m f",
+            "project m f N=0",
             "int x;\nint main(void){\nfor(x=0;x<3;x++){\n#ifdef A\nx++;\n#endif\n}\n}\n",
             0,
             "int x;\nint main(void){\nfor(x=0;x<3;x++){\n\n\n\n}\n}\n",
