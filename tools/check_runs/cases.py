@@ -109,6 +109,8 @@ PROGRAMS = [
     case("a for in a for", "int i, j, n;", "for (i = 0; i < 3; i++)\nfor (j = i; j < 3; ++j)\nn++;", "ended i=3 j=3 n=6"),
     case("a for in an if", "int x, y = 5, z;", "if (x)\nfor (y = 0; y < 3; y++)\nz++;\nelse\nz = 9;", "ended x=0 y=5 z=9"),
     case("an if in a for", "int x, y, z;", "for (; x < 3; x++) if (x) y++; else z++;", "ended x=3 y=2 z=1"),
+    case("a static variable of main", "int i, x;", "for (i = 0; i < 3; i++) {\nstatic int n = 10;\nn += i;\nx = n;\n}", "ended i=3 x=13"),
+    case("a static constant of main", "int x;", "static const int k = -4;\nx = k * 2;", "ended x=-8"),
     case("constants", "int x; const int A = 3; int const B = -2;", "x = A - B;", "ended x=5 A=3 B=-2"),
     case("constants that are counted", "int x; enum { A, B, C = 0x10, D, E = -3, F, };", "x = D + F;", "ended x=15 A=0 B=1 C=16 D=17 E=-3 F=-2"),
     case("words of the type", "int32_t a = 1; signed b = 2; int signed c; static signed int d;", "c = a + b;\nd = c;", "ended a=1 b=2 c=3 d=3"),

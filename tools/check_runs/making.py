@@ -10,12 +10,13 @@ from collections.abc import Callable, Iterable, Iterator
 
 from .expressions import COMPARING, Expressions
 from .families import Family
-from .outcomes import MAIN, code_of, declarators
+from .outcomes import MAIN, code_of, declarators, statics
 
 SWITCHES = ("FAST", "SAFE", "LOG")
 CONSTANTS = ("BASE", "STEP", "TOP", "LAST")
 NAMES = ("level", "count", "load", "rate", "head", "limit", "phase", "gain")
 LOCALS = ("part", "rest", "share", "half", "odd")
+STATICS = ("total", "seen", "last_one")
 FUNCTIONS = ("sample", "reading")
 TYPES = ("int", "int", "int", "int", "signed", "signed int", "int signed", "int32_t")
 # The least values of number features: mostly about 0, so that divisors by them may be 0, and the ends of what a model takes.
@@ -47,6 +48,7 @@ HELD: dict[str, Callable[[Family], object]] = {
     "a number feature in the code": Family.valued,
     "a `for`": lambda family: re.search(r"\bfor\b", code_of(family.file)),
     "variables of `main`": lambda family: declarators(family.file),
+    "a `static` one of these": lambda family: statics(family.file),
     "one name in several blocks": lambda family: has_twins([it.split("=")[0].strip() for it in declarators(family.file)]),
     "a call of a function outside": lambda family: re.search(rf"\b({'|'.join(FUNCTIONS)}|note)\(", MAIN.split(code_of(family.file))[-1]),
 }
@@ -73,7 +75,7 @@ def laid_out(lines: Iterable[str]) -> Iterator[str]:
 class Maker:
     """A family in the making. `free` are the variables that every configuration declares, `some` those of one switch each, `constants`
     what every configuration declares by `const`, `enum` or `#define`, with the number features that stand in the code, `other` the
-    constants of one switch each, `functions` the functions outside with a value, and `locals` names for variables of `main`. `counters`
+    constants of one switch each, `functions` the functions outside with a value, `locals` names for variables of `main` and `statics` for `static` ones. `counters`
     are variables that loops alone change, and `counting` those of the loops around a statement."""
 
     def __init__(self, rng: random.Random):
@@ -88,6 +90,7 @@ class Maker:
         self.other: dict[str, str] = {}
         self.functions = ["input"]
         self.locals = self.rng.sample(LOCALS, self.rng.randint(0, len(LOCALS)))
+        self.statics = self.rng.sample(STATICS, self.rng.randint(0, len(STATICS)))
         self.declarations: list[str] = []
         self.declare()
 
@@ -250,6 +253,12 @@ class Maker:
             return [f"{rng.choice(('const int', 'int const', 'const signed'))} {listed};"], []
         return [f"{rng.choice(TYPES)} {listed};"], names
 
+    def static(self) -> tuple[list[str], list[str]]:
+        """The same of a `static` variable, which is the only one of its name in `main`."""
+        rng = self.rng
+        name = self.statics.pop()
+        return [f"static {rng.choice(TYPES)} {name}{self.start()};"], [name]
+
     def change(self, scope: list[str]) -> str:
         """A change of a variable, as a statement has it before its semicolon, and a `for` in its parentheses."""
         rng = self.rng
@@ -364,6 +373,10 @@ class Maker:
         for _ in range(rng.randint(1, 4) if depth > 0 else rng.randint(0, 2)):
             if self.locals and rng.random() < 0.15:
                 declaration, names = self.local(scope)
+                lines += declaration
+                scope = scope + names
+            if self.statics and rng.random() < 0.1:
+                declaration, names = self.static()
                 lines += declaration
                 scope = scope + names
             kind = rng.choices(("simple", "choice", "loop", "group", "block", "line"), (6, 3, 2, 3, 0.3, 0.7))[0] if depth > 0 else "simple"

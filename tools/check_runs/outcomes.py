@@ -111,11 +111,21 @@ def closing_line(text: str, statement: Outcome) -> int:
 TYPE = r"(?:int32_t|signed\s+int|int\s+signed|signed|int)"
 MAIN = re.compile(rf"{TYPE}\s+main\s*\(")
 IN_MAIN = re.compile(rf"\b{TYPE}(?:\s+const)?\s+(\w[^;]*);")
+STATIC = re.compile(r"\bstatic\b[^;]*;")
 
 
 def declarators(text: str) -> list[str]:
     """The declarators of `main`. A comma stands there in declarations alone."""
-    return [it for declaration in IN_MAIN.findall(MAIN.split(code_of(text))[-1]) for it in declaration.split(",")]
+    return declarators_in(MAIN.split(code_of(text))[-1])
+
+
+def declarators_in(body: str) -> list[str]:
+    return [it for declaration in IN_MAIN.findall(body) for it in declaration.split(",")]
+
+
+def statics(text: str) -> list[str]:
+    """The declarators of the `static` variables of `main`."""
+    return declarators_in("".join(STATIC.findall(MAIN.split(code_of(text))[-1])))
 
 
 def declared_in_main(text: str) -> set[str]:
@@ -123,8 +133,9 @@ def declared_in_main(text: str) -> set[str]:
 
 
 def has_any_value(text: str) -> bool:
-    """Whether `main` declares a variable without an initialiser: its value may be any, and clang need not take it from the inputs."""
-    return any("=" not in it for it in declarators(text))
+    """Whether `main` declares a variable without an initialiser that is not `static`: its value may be any, and clang need not take it from the
+    inputs."""
+    return any("=" not in it for it in declarators_in(STATIC.sub("", MAIN.split(code_of(text))[-1])))
 
 
 def is_same(text: str, famlint: Outcome, clang: Outcome) -> bool:

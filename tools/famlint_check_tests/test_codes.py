@@ -31,8 +31,8 @@ class Sentences(unittest.TestCase):
         found = codes.sentences(DOCUMENT)
         self.assertEqual(found["F6"], codes.Sentence("F6", "a section without its end", "end it"))
         self.assertEqual(found["F14"], codes.Sentence(
-            "F14", "the second declaration of a name where one of it is in scope; or: a declaration that some valid configuration keeps where "
-            "an earlier one is in scope; with the least such configuration", "keep one; or: keep one for each configuration"))
+            "F14", "the second declaration of a name where one of it is in scope, or of a name of main where one of the two is static; "
+            "or: a declaration that some valid configuration keeps where an earlier one is in scope; with the least such configuration", "keep one; or: keep one for each configuration"))
         self.assertEqual(found["C4"], codes.Sentence("C4", "a name begins with two underscores", "a feature of the model"))
         self.assertEqual(found["M7"].to_do, "")
 

@@ -6,12 +6,13 @@ use Rattle.fam_outer.specs.declared.faults.Place.{Place}
 use Rattle.c_tree.specs.declared.tree.Op.TheVariants.{Sub}
 use Rattle.c_tree.specs.declared.lists.Declared.{Declared}
 use Rattle.c_tree.specs.Tree.{Term, Code}
+use Rattle.c_tree.specs.declared.lists.Guard.{Guard}
 use Rattle.c_grammar.specs.declared.constants.NameKind.{NameKind}
 use Rattle.c_grammar.specs.declared.constants.NameKind.TheVariants as kinds
 use Rattle.c_grammar.specs.declared.items.Item.{Item}
 use Rattle.c_grammar.specs.declared.items.Sign.{Sign}
 use Rattle.c_grammar.specs.declared.items.Sign.TheVariants as signs
-use Rattle.c_grammar.specs.Grammar.{at, Prefix, Positive, Negative, Inverse, prefix_sign, Expresses, number, name, group, prefix, loose, binary, Update, Sum, Difference, Product, Quotient, Remainder, update_sign, Count, Raise, Lower, count_sign, Callable, of_input, of_function, Changes, assignment, input_taken, compound_assignment, count_behind, count_before, Clause, no_clause, clause, Tests, no_test, test, LocalDeclarator, uninitialised, initialised, from_call, Shape, Listed, Stated, Chained, Locals, Writes, none, more, choice, local, last_local, next_local, ends, otherwise, elif, change, call, void_call, assert, skip, block, while, for, if_then, if_else, Optional, absent, present, Typed, int, int32, signed, signed_int, int_signed, Qualifier, Unqualified, Constant, Counted, behind, Qualified, unqualified, const_before, const_behind, Begins, only_type, then_type, enumeration, Declarator, bare, positive, negative, counted, Ending, variables_end, constants_end, enumeration_end, comma_end, Defines, defined, negative_defined, enclosed, negative_enclosed, Part, Outer, Vars, Later, Declares, nothing, variables, prototype, void_prototype, definition, section, last_var, next_var, end_part, else_part, elif_part, Returns, no_return, return, Gap, Empty, no_more, empty_section, empty_end, empty_else, empty_elif, Body, body, Main, main, file, is_group}
+use Rattle.c_grammar.specs.Grammar.{at, Prefix, Positive, Negative, Inverse, prefix_sign, Expresses, number, name, group, prefix, loose, binary, Update, Sum, Difference, Product, Quotient, Remainder, update_sign, Count, Raise, Lower, count_sign, Callable, of_input, of_function, Changes, assignment, input_taken, compound_assignment, count_behind, count_before, Clause, no_clause, clause, Tests, no_test, test, LocalDeclarator, uninitialised, initialised, from_call, Shape, Listed, Stated, Chained, Locals, Writes, none, more, choice, local, static_local, last_local, next_local, ends, otherwise, elif, change, call, void_call, assert, skip, block, while, for, if_then, if_else, Optional, absent, present, Typed, int, int32, signed, signed_int, int_signed, Qualifier, Unqualified, Constant, Counted, behind, Qualified, unqualified, const_before, const_behind, Begins, only_type, then_type, enumeration, Declarator, bare, positive, negative, counted, Ending, variables_end, constants_end, enumeration_end, comma_end, Defines, defined, negative_defined, enclosed, negative_enclosed, Part, Outer, Vars, Later, Declares, nothing, variables, prototype, void_prototype, definition, section, last_var, next_var, end_part, else_part, elif_part, Returns, no_return, return, Gap, Empty, no_more, empty_section, empty_end, empty_else, empty_elif, Body, body, Main, main, file, is_group}
 use Rattle.c_grammar.specs.Constants.{kind_behind_name, AreApart, DirectivesStandApart}
 
 -- text in front of which directives may stand: where what follows it is apart, the whole is
@@ -112,6 +113,32 @@ test_apart : {ts : List Item} {p : Place} {e : Term} → Tests ts p e → Leaves
 test_apart (no_test z) w h = (tt, h)
 test_apart (test z {x} {ts} s) w h = closed false s (at z signs.Semicolon) [] w refl (λ b. (tt, h))
 
+-- ---- declarators of variables that have their values from the start
+
+names_behind : (kind : Qualifier) (n : ℤ) → names_of (behind kind n) ≡ names_of kind
+names_behind Unqualified n = refl
+names_behind Constant n = refl
+names_behind (Counted last) n = refl
+
+-- a declarator, before what follows it
+declarator_apart : {us : List Item} {x : ℕ} {n : ℤ} {kind : Qualifier} → Declarator kind us x n → (w : List Item) → ((before : Bool) → AreApart (names_of kind) before w) → AreApart (names_of kind) false (us ++ w)
+declarator_apart (bare p x) w h = name_apart Unqualified p x false w (h true)
+declarator_apart (positive p q r x n {kind}) w h = name_apart kind p x false (at q signs.Equals ∷ at r (signs.Number n) ∷ w) (tt, (tt, h false))
+declarator_apart (negative p q r s x n {kind}) w h = name_apart kind p x false (at q signs.Equals ∷ at r (signs.Oper Sub) ∷ at s (signs.Number n) ∷ w) (tt, (tt, (tt, h false)))
+declarator_apart (counted p x last lt) w h = name_apart (Counted last) p x false w (h true)
+
+ending_apart : {us : List Item} {kind : Qualifier} → Ending kind us → (w : List Item) → AreApart kinds.Variable false w → (before : Bool) → AreApart (names_of kind) before (us ++ w)
+ending_apart (variables_end p) w h before = (tt, h)
+ending_apart (constants_end p) w h before = (tt, h)
+ending_apart (enumeration_end last p q) w h before = (tt, (tt, h))
+ending_apart (comma_end last p q r) w h before = (tt, (tt, (tt, h)))
+
+vars_apart : {gs : List Guard} {kind : Qualifier} {ts : List Item} {ds : List Declared} → Declares (Vars kind gs) ts ds → (w : List Item) → AreApart kinds.Variable false w → AreApart (names_of kind) false (ts ++ w)
+vars_apart (last_var gs {us} {vs} {x} {n} {kind} d o) = λ w h.
+    subst (AreApart (names_of kind) false) (sym (append_assoc us vs w)) (declarator_apart d (vs ++ w) (ending_apart o w h))
+vars_apart (next_var p gs {us} {vs} {x} {n} {ds} {kind} d v) = λ w h.
+    subst (AreApart (names_of kind) false) (sym (append_assoc us (at p signs.Comma ∷ vs) w)) (declarator_apart d (at p signs.Comma ∷ (vs ++ w)) (λ b. (tt, subst (λ (c : NameKind). AreApart c false (vs ++ w)) (names_behind kind n) (vars_apart v w h))))
+
 -- ---- statements
 
 -- the declarators of a declaration stand where its names are of its kind
@@ -128,6 +155,9 @@ code_apart (choice p n {ts} {us} {vs} s t l) = λ w h. ((refl, refl), both ts (u
 code_apart (local {ts} {us} {vs} q v l) = λ w h.
     let re : (ts ++ (us ++ vs)) ++ w ≡ ts ++ (us ++ (vs ++ w)) = simp append_assoc in
     subst (AreApart kinds.Variable false) (sym re) (qualified_apart q (us ++ (vs ++ w)) (code_apart v (vs ++ w) (code_apart l w h)))
+code_apart (static_local p {ts} {us} {vs} q v l) = λ w h.
+    let re : (ts ++ (us ++ vs)) ++ w ≡ ts ++ (us ++ (vs ++ w)) = simp append_assoc in
+    (tt, subst (AreApart kinds.Variable false) (sym re) (qualified_apart q (us ++ (vs ++ w)) (vars_apart v (vs ++ w) (code_apart l w h))))
 code_apart (last_local p {ts} {kind = kind} d) = λ w h.
     subst (AreApart (names_of kind) false) (sym (append_assoc ts (at p signs.Semicolon ∷ []) w)) (local_apart d false (at p signs.Semicolon) w refl (λ b. (tt, h)))
 code_apart (next_local p {ts} {us} {kind = kind} d v) = λ w h.
@@ -153,11 +183,6 @@ code_apart (if_else p q r z {b} {ts} {us} {vs} e s t) = λ w h.
 
 -- ---- declarations
 
-names_behind : (kind : Qualifier) (n : ℤ) → names_of (behind kind n) ≡ names_of kind
-names_behind Unqualified n = refl
-names_behind Constant n = refl
-names_behind (Counted last) n = refl
-
 static_apart : {us : List Item} {kind : Qualifier} → Begins signs.Static kind us → (w : List Item) → AreApart (names_of kind) false w → AreApart kinds.Variable false (us ++ w)
 static_apart (only_type s y) w h = qualified_apart y w h
 static_apart (then_type p s y) w h = (tt, qualified_apart y w h)
@@ -176,19 +201,6 @@ void_apart (present p s) w h = (tt, h true)
 extern_word_apart : {us : List Item} → Optional signs.Extern us → Leaves us
 extern_word_apart (absent s) w h = h
 extern_word_apart (present p s) w h = (tt, h)
-
--- a declarator, before what follows it
-declarator_apart : {us : List Item} {x : ℕ} {n : ℤ} {kind : Qualifier} → Declarator kind us x n → (w : List Item) → ((before : Bool) → AreApart (names_of kind) before w) → AreApart (names_of kind) false (us ++ w)
-declarator_apart (bare p x) w h = name_apart Unqualified p x false w (h true)
-declarator_apart (positive p q r x n {kind}) w h = name_apart kind p x false (at q signs.Equals ∷ at r (signs.Number n) ∷ w) (tt, (tt, h false))
-declarator_apart (negative p q r s x n {kind}) w h = name_apart kind p x false (at q signs.Equals ∷ at r (signs.Oper Sub) ∷ at s (signs.Number n) ∷ w) (tt, (tt, (tt, h false)))
-declarator_apart (counted p x last lt) w h = name_apart (Counted last) p x false w (h true)
-
-ending_apart : {us : List Item} {kind : Qualifier} → Ending kind us → (w : List Item) → AreApart kinds.Variable false w → (before : Bool) → AreApart (names_of kind) before (us ++ w)
-ending_apart (variables_end p) w h before = (tt, h)
-ending_apart (constants_end p) w h before = (tt, h)
-ending_apart (enumeration_end last p q) w h before = (tt, (tt, h))
-ending_apart (comma_end last p q r) w h before = (tt, (tt, (tt, h)))
 
 definition_apart : {us : List Item} {x : ℕ} {n : ℤ} → Defines us x n → Leaves us
 definition_apart (defined p q r x n) w h = (tt, (tt, (tt, h)))
@@ -217,10 +229,8 @@ declared_apart (void_prototype p q r s t k gs {us} {vs} {ws} o v d) = λ w h.
     subst (AreApart kinds.Variable false) (sym re) (extern_word_apart o head (tt, (tt, (tt, void_apart v (at s signs.Close ∷ at t signs.Semicolon ∷ (ws ++ w)) (λ b. (tt, (tt, declared_apart d w h)))))))
 declared_apart (definition gs {us} {ws} o d) = both us ws (definition_apart o) (declared_apart d)
 declared_apart (section p n gs {us} {vs} {ws} a b d) = λ w h. ((refl, refl), both us (vs ++ ws) (declared_apart a) (both vs ws (declared_apart b) (declared_apart d)) w h)
-declared_apart (last_var gs {us} {vs} {x} {n} {kind} d o) = λ w h.
-    subst (AreApart (names_of kind) false) (sym (append_assoc us vs w)) (declarator_apart d (vs ++ w) (ending_apart o w h))
-declared_apart (next_var p gs {us} {vs} {x} {n} {ds} {kind} d v) = λ w h.
-    subst (AreApart (names_of kind) false) (sym (append_assoc us (at p signs.Comma ∷ vs) w)) (declarator_apart d (at p signs.Comma ∷ (vs ++ w)) (λ b. (tt, subst (λ (c : NameKind). AreApart c false (vs ++ w)) (names_behind kind n) (declared_apart v w h))))
+declared_apart (last_var gs d o) = vars_apart (last_var gs d o)
+declared_apart (next_var p gs d v) = vars_apart (next_var p gs d v)
 declared_apart (end_part p gs) = λ w h. ((refl, refl), h)
 declared_apart (else_part p q gs {us} d) = λ w h. ((refl, refl), both us (at q signs.GroupEnd ∷ []) (declared_apart d) (λ v i. ((refl, refl), i)) w h)
 declared_apart (elif_part p n gs {us} {vs} a b) = λ w h. ((refl, refl), both us vs (declared_apart a) (declared_apart b) w h)

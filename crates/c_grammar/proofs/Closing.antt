@@ -7,7 +7,7 @@ use Rattle.c_grammar.specs.declared.items.Sign.TheVariants as signs
 use Rattle.c_grammar.specs.declared.items.Item.{Item}
 use Rattle.c_grammar.specs.Grammar.{at, tighter, applied, updated, changed_by_one, Qualifier, Unqualified, Constant, Counted, uncounted, File, file_of}
 use Rattle.c_grammar.specs.Ahead.{Loose, NoElse}
-use Rattle.c_grammar.specs.Machine.{Tailing, Another, Final, Frame, Paren, Pre, Left, Stack, Top, Braces, Yes, No, ThenOf, ElseOf, LoopOf, AsStatement, AsStart, AsStep, Use, ToAssign, ToInitialise, ToUpdate, ToAssert, ToChoose, ToLoop, ToRepeat, Pending, OfStatement, OfLocal, Sections, Outermost, InPart, InLast, Aim, ToPrototype, ToMain, ReadingState, Outside, AfterStatic, AfterExtern, AfterConst, AfterEnum, AfterVoidType, AfterType, NoWord, StaticWord, ExternWord, ConstWord, Declaring, Bare, Starting, Negating, Started, Listing, Enumerated, AfterDefine, Defining, NegativeDefining, Enclosing, NegativeEnclosing, Enclosed, Parameters, InParameters, AfterVoid, AfterParameters, Ready, LocalConst, LocalType, NextLocal, LocalNamed, Ended, Wants, Has, Counting, Named, Opens, ForOpens, StartComes, TestComes, StepComes, VoidComes, VoidCloses, CallComes, CallOpens, CallCloses, Finishing, Returning, Returned, Closing, Over, with_declared, folded, linked, run}
+use Rattle.c_grammar.specs.Machine.{Tailing, Another, Final, Frame, Paren, Pre, Left, Stack, Top, Braces, Yes, No, ThenOf, ElseOf, LoopOf, AsStatement, AsStart, AsStep, Use, ToAssign, ToInitialise, ToUpdate, ToAssert, ToChoose, ToLoop, ToRepeat, Pending, OfStatement, OfLocal, Sections, Outermost, InPart, InLast, Aim, ToPrototype, ToMain, ReadingState, Outside, AfterStatic, AfterExtern, AfterConst, AfterEnum, AfterVoidType, AfterType, NoWord, StaticWord, ExternWord, ConstWord, Declaring, Bare, Starting, Negating, Started, Listing, Enumerated, AfterDefine, Defining, NegativeDefining, Enclosing, NegativeEnclosing, Enclosed, Parameters, InParameters, AfterVoid, AfterParameters, Ready, LocalConst, LocalType, NextLocal, LocalNamed, Ended, Wants, Has, Counting, Named, Opens, ForOpens, StartComes, TestComes, StepComes, VoidComes, VoidCloses, CallComes, CallOpens, CallCloses, Finishing, Returning, Returned, Closing, Over, with_declared, folded, linked, run, InStatic, BehindStatic, BehindStaticConst, BehindStaticType, BeforeStaticName, BehindStaticName, BehindStaticEquals, BehindStaticMinus, BehindStaticNumber, StaticPart}
 use Rattle.c_grammar.proofs.Complete.{pre_absorbs, left_absorbs, loop_absorbs, else_absorbs, then_absorbs, folds}
 
 pub nowhere : Place
@@ -129,6 +129,25 @@ after_declarator Unqualified x n secs ds = let h = after_declarations secs (with
 after_declarator Constant x n secs ds = let h = after_declarations secs (with_declared secs ds x n) in (at nowhere signs.Semicolon ∷ h.0, h.1, h.2)
 after_declarator (Counted last) x n secs ds = let h = after_declarations secs (with_declared secs ds x n) in (at nowhere signs.RightBrace ∷ at nowhere signs.Semicolon ∷ h.0, h.1, h.2)
 
+-- where a statement may begin
+closes_ready : (outer : Stack) → Rest (Ready outer)
+unfolding run
+closes_ready outer = let h = closes outer (Skip nowhere Done) in (at nowhere signs.Semicolon ∷ closers outer, h.0, h.1)
+
+-- in a static declaration of `main`
+after_static : (part : StaticPart) (outer : Stack) → Rest (InStatic part outer)
+unfolding run
+after_static BehindStatic outer = let h = closes_ready outer in (at nowhere signs.Int ∷ at nowhere (signs.Name 0) ∷ at nowhere signs.Semicolon ∷ h.0, h.1, h.2)
+after_static BehindStaticConst outer = let h = closes_ready outer in (at nowhere signs.Int ∷ at nowhere (signs.Name 0) ∷ at nowhere signs.Equals ∷ at nowhere (signs.Number (pos 0)) ∷ at nowhere signs.Semicolon ∷ h.0, h.1, h.2)
+after_static (BehindStaticType Unqualified words) outer = let h = closes_ready outer in (at nowhere (signs.Name 0) ∷ at nowhere signs.Semicolon ∷ h.0, h.1, h.2)
+after_static (BehindStaticType Constant words) outer = let h = closes_ready outer in (at nowhere (signs.Name 0) ∷ at nowhere signs.Equals ∷ at nowhere (signs.Number (pos 0)) ∷ at nowhere signs.Semicolon ∷ h.0, h.1, h.2)
+after_static (BehindStaticType (Counted last) words) outer = let h = closes_ready outer in (at nowhere (signs.Name 0) ∷ at nowhere signs.Equals ∷ at nowhere (signs.Number (pos 0)) ∷ at nowhere signs.Semicolon ∷ h.0, h.1, h.2)
+after_static (BeforeStaticName kind) outer = let h = closes_ready outer in (at nowhere (signs.Name 0) ∷ at nowhere signs.Equals ∷ at nowhere (signs.Number (pos 0)) ∷ at nowhere signs.Semicolon ∷ h.0, h.1, h.2)
+after_static (BehindStaticName kind) outer = let h = closes_ready outer in (at nowhere signs.Equals ∷ at nowhere (signs.Number (pos 0)) ∷ at nowhere signs.Semicolon ∷ h.0, h.1, h.2)
+after_static (BehindStaticEquals kind) outer = let h = closes_ready outer in (at nowhere (signs.Number (pos 0)) ∷ at nowhere signs.Semicolon ∷ h.0, h.1, h.2)
+after_static (BehindStaticMinus kind) outer = let h = closes_ready outer in (at nowhere (signs.Number (pos 0)) ∷ at nowhere signs.Semicolon ∷ h.0, h.1, h.2)
+after_static (BehindStaticNumber kind) outer = let h = closes_ready outer in (at nowhere signs.Semicolon ∷ h.0, h.1, h.2)
+
 pub completes : (state : ReadingState) → (tail : List Item) × (made : File) × (run state tail ≡ Ok made)
 unfolding run after_declarator
 completes (Outside secs ds) = after_declarations secs ds
@@ -158,13 +177,14 @@ completes (Parameters aim) = let h = after_parameters aim in (at nowhere signs.O
 completes (InParameters aim) = let h = after_parameters aim in (at nowhere signs.Close ∷ h.0, h.1, h.2)
 completes (AfterVoid aim) = let h = after_parameters aim in (at nowhere signs.Close ∷ h.0, h.1, h.2)
 completes (AfterParameters aim) = after_parameters aim
-completes (Ready outer) = let h = closes outer (Skip nowhere Done) in (at nowhere signs.Semicolon ∷ closers outer, h.0, h.1)
+completes (Ready outer) = closes_ready outer
 completes (LocalConst outer) = let h = after_name Constant nowhere 0 outer in (at nowhere signs.Int ∷ at nowhere (signs.Name 0) ∷ h.0, h.1, h.2)
 completes (LocalType Unqualified words outer) = let h = after_name Unqualified nowhere 0 outer in (at nowhere (signs.Name 0) ∷ h.0, h.1, h.2)
 completes (LocalType Constant words outer) = let h = after_name Constant nowhere 0 outer in (at nowhere (signs.Name 0) ∷ h.0, h.1, h.2)
 completes (LocalType (Counted last) words outer) = let h = after_name (Counted last) nowhere 0 outer in (at nowhere (signs.Name 0) ∷ h.0, h.1, h.2)
 completes (NextLocal kind outer) = let h = after_name kind nowhere 0 outer in (at nowhere (signs.Name 0) ∷ h.0, h.1, h.2)
 completes (LocalNamed kind p x outer) = after_name kind p x outer
+completes (InStatic part outer) = after_static part outer
 completes (Ended outer c) = let h = closes outer c in (closers outer, h.0, h.1)
 completes (Wants fs u) = let h = ends_expr fs u (Var 0) in (at nowhere (signs.Name 0) ∷ h.tail, h.made, h.reads)
 completes (Has fs u e) = let h = ends_expr fs u e in (h.tail, h.made, h.reads)

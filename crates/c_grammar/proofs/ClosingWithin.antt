@@ -8,7 +8,7 @@ use Rattle.c_grammar.specs.declared.items.Sign.TheVariants as signs
 use Rattle.c_grammar.specs.declared.items.Item.{Item}
 use Rattle.c_grammar.specs.Grammar.{at, tighter, applied, updated, changed_by_one, Raise, Qualifier, Unqualified, Constant, Counted, uncounted, File, file_of}
 use Rattle.c_grammar.specs.Ahead.{Loose, NoElse}
-use Rattle.c_grammar.specs.Machine.{Tailing, Another, Final, Frame, Paren, Pre, Left, Stack, Top, Braces, Yes, No, ThenOf, ElseOf, LoopOf, Site, AsStatement, AsStart, AsStep, Use, ToAssign, ToInitialise, ToUpdate, ToAssert, ToChoose, ToLoop, ToRepeat, Pending, OfStatement, OfLocal, Sections, Outermost, InPart, InLast, Aim, ToPrototype, ToMain, ReadingState, Outside, AfterStatic, AfterExtern, AfterConst, AfterEnum, AfterVoidType, AfterType, NoWord, StaticWord, ExternWord, ConstWord, Declaring, Bare, Starting, Negating, Started, Listing, Enumerated, AfterDefine, Defining, NegativeDefining, Enclosing, NegativeEnclosing, Enclosed, Parameters, InParameters, AfterVoid, AfterParameters, Ready, LocalConst, LocalType, NextLocal, LocalNamed, Ended, Wants, Has, Counting, Named, Opens, ForOpens, StartComes, TestComes, StepComes, VoidComes, VoidCloses, CallComes, CallOpens, CallCloses, Finishing, Returning, Returned, Closing, Over, with_declared, folded, linked, step}
+use Rattle.c_grammar.specs.Machine.{Tailing, Another, Final, Frame, Paren, Pre, Left, Stack, Top, Braces, Yes, No, ThenOf, ElseOf, LoopOf, Site, AsStatement, AsStart, AsStep, Use, ToAssign, ToInitialise, ToUpdate, ToAssert, ToChoose, ToLoop, ToRepeat, Pending, OfStatement, OfLocal, Sections, Outermost, InPart, InLast, Aim, ToPrototype, ToMain, ReadingState, Outside, AfterStatic, AfterExtern, AfterConst, AfterEnum, AfterVoidType, AfterType, NoWord, StaticWord, ExternWord, ConstWord, Declaring, Bare, Starting, Negating, Started, Listing, Enumerated, AfterDefine, Defining, NegativeDefining, Enclosing, NegativeEnclosing, Enclosed, Parameters, InParameters, AfterVoid, AfterParameters, Ready, LocalConst, LocalType, NextLocal, LocalNamed, Ended, Wants, Has, Counting, Named, Opens, ForOpens, StartComes, TestComes, StepComes, VoidComes, VoidCloses, CallComes, CallOpens, CallCloses, Finishing, Returning, Returned, Closing, Over, with_declared, folded, linked, step, StaticPart, InStatic, BehindStatic, BehindStaticConst, BehindStaticType, BeforeStaticName, BehindStaticName, BehindStaticEquals, BehindStaticMinus, BehindStaticNumber}
 use Rattle.c_grammar.specs.Deep.{guarded}
 use Rattle.c_grammar.proofs.Complete.{pre_step, left_step, loop_step, else_step, then_step}
 use Rattle.c_grammar.proofs.Closing.{nowhere, closers, closers_no_else}
@@ -140,6 +140,25 @@ after_name : (kind : Qualifier) (p : Place) (x : ℕ) (outer : Stack) (n : ℕ) 
 unfolding guarded
 after_name kind p x outer n = let h = ends_use (ToInitialise kind p x outer) (Var 0) 0 (omega arith) in (at nowhere signs.Equals ∷ at nowhere (signs.Name 0) ∷ h.tail, h.made, h.reads)
 
+-- where a statement may begin
+closes_ready : (outer : Stack) (n : ℕ) → Rest (Ready outer) n
+unfolding guarded
+closes_ready outer n = let h = closes outer (Skip nowhere Done) 0 in (at nowhere signs.Semicolon ∷ closers outer, h.0, h.1)
+
+-- in a static declaration of `main`
+after_static : (part : StaticPart) (outer : Stack) (n : ℕ) → Rest (InStatic part outer) n
+unfolding guarded
+after_static BehindStatic outer n = let h = closes_ready outer 0 in (at nowhere signs.Int ∷ at nowhere (signs.Name 0) ∷ at nowhere signs.Semicolon ∷ h.0, h.1, h.2)
+after_static BehindStaticConst outer n = let h = closes_ready outer 0 in (at nowhere signs.Int ∷ at nowhere (signs.Name 0) ∷ at nowhere signs.Equals ∷ at nowhere (signs.Number (pos 0)) ∷ at nowhere signs.Semicolon ∷ h.0, h.1, h.2)
+after_static (BehindStaticType Unqualified words) outer n = let h = closes_ready outer 0 in (at nowhere (signs.Name 0) ∷ at nowhere signs.Semicolon ∷ h.0, h.1, h.2)
+after_static (BehindStaticType Constant words) outer n = let h = closes_ready outer 0 in (at nowhere (signs.Name 0) ∷ at nowhere signs.Equals ∷ at nowhere (signs.Number (pos 0)) ∷ at nowhere signs.Semicolon ∷ h.0, h.1, h.2)
+after_static (BehindStaticType (Counted last) words) outer n = let h = closes_ready outer 0 in (at nowhere (signs.Name 0) ∷ at nowhere signs.Equals ∷ at nowhere (signs.Number (pos 0)) ∷ at nowhere signs.Semicolon ∷ h.0, h.1, h.2)
+after_static (BeforeStaticName kind) outer n = let h = closes_ready outer 0 in (at nowhere (signs.Name 0) ∷ at nowhere signs.Equals ∷ at nowhere (signs.Number (pos 0)) ∷ at nowhere signs.Semicolon ∷ h.0, h.1, h.2)
+after_static (BehindStaticName kind) outer n = let h = closes_ready outer 0 in (at nowhere signs.Equals ∷ at nowhere (signs.Number (pos 0)) ∷ at nowhere signs.Semicolon ∷ h.0, h.1, h.2)
+after_static (BehindStaticEquals kind) outer n = let h = closes_ready outer 0 in (at nowhere (signs.Number (pos 0)) ∷ at nowhere signs.Semicolon ∷ h.0, h.1, h.2)
+after_static (BehindStaticMinus kind) outer n = let h = closes_ready outer 0 in (at nowhere (signs.Number (pos 0)) ∷ at nowhere signs.Semicolon ∷ h.0, h.1, h.2)
+after_static (BehindStaticNumber kind) outer n = let h = closes_ready outer 0 in (at nowhere signs.Semicolon ∷ h.0, h.1, h.2)
+
 -- each state that is reached within the limits goes on to a file within them
 pub goes_on_within : (state : ReadingState) (n : ℕ) → n ≤ 64 → Rest state n
 unfolding guarded after_declarator
@@ -170,13 +189,14 @@ goes_on_within (Parameters aim) n few = let h = after_parameters aim 0 in (at no
 goes_on_within (InParameters aim) n few = let h = after_parameters aim 0 in (at nowhere signs.Close ∷ h.0, h.1, h.2)
 goes_on_within (AfterVoid aim) n few = let h = after_parameters aim 0 in (at nowhere signs.Close ∷ h.0, h.1, h.2)
 goes_on_within (AfterParameters aim) n few = after_parameters aim n
-goes_on_within (Ready outer) n few = let h = closes outer (Skip nowhere Done) 0 in (at nowhere signs.Semicolon ∷ closers outer, h.0, h.1)
+goes_on_within (Ready outer) n few = closes_ready outer n
 goes_on_within (LocalConst outer) n few = let h = after_name Constant nowhere 0 outer 0 in (at nowhere signs.Int ∷ at nowhere (signs.Name 0) ∷ h.0, h.1, h.2)
 goes_on_within (LocalType Unqualified words outer) n few = let h = after_name Unqualified nowhere 0 outer 0 in (at nowhere (signs.Name 0) ∷ h.0, h.1, h.2)
 goes_on_within (LocalType Constant words outer) n few = let h = after_name Constant nowhere 0 outer 0 in (at nowhere (signs.Name 0) ∷ h.0, h.1, h.2)
 goes_on_within (LocalType (Counted last) words outer) n few = let h = after_name (Counted last) nowhere 0 outer 0 in (at nowhere (signs.Name 0) ∷ h.0, h.1, h.2)
 goes_on_within (NextLocal kind outer) n few = let h = after_name kind nowhere 0 outer 0 in (at nowhere (signs.Name 0) ∷ h.0, h.1, h.2)
 goes_on_within (LocalNamed kind p x outer) n few = after_name kind p x outer n
+goes_on_within (InStatic part outer) n few = after_static part outer n
 goes_on_within (Ended outer c) n few = let h = closes outer c n in (closers outer, h.0, h.1)
 goes_on_within (Wants fs u) n few = let h = ends_expr fs u (Var 0) n few in (at nowhere (signs.Name 0) ∷ h.tail, h.made, takes (Wants fs u) (Has fs u (Var 0)) nowhere (signs.Name 0) n n h.tail refl refl refl few ∙ h.reads)
 goes_on_within (Has fs u e) n few = let h = ends_expr fs u e n few in (h.tail, h.made, h.reads)

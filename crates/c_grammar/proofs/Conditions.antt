@@ -7,9 +7,11 @@ use Rattle.c_tree.specs.declared.lists.Guard.{Guard}
 use Rattle.c_tree.specs.declared.lists.Declared.{Declared}
 use Rattle.c_tree.specs.Tree.{Code, Done, Assign, Input, Assert, If, While, Block, Skip, Cond, followed}
 use Rattle.c_tree.specs.Project.{IsNumbered, IsGuarded, IsConditioned}
+use Rattle.c_grammar.specs.Statics.{statics_by}
+use Rattle.c_grammar.proofs.HeldStatics.{statics_guarded}
 use Rattle.c_grammar.specs.declared.items.Item.{Item}
 use Rattle.c_grammar.specs.declared.items.Sign.TheVariants as signs
-use Rattle.c_grammar.specs.Grammar.{at, Changes, assignment, input_taken, compound_assignment, count_behind, count_before, Clause, no_clause, clause, Qualifier, LocalDeclarator, uninitialised, initialised, from_call, Shape, Writes, none, more, choice, local, last_local, next_local, ends, otherwise, elif, change, call, void_call, assert, skip, block, while, for, if_then, if_else, declared, Part, Outer, Vars, Later, Declares, nothing, variables, prototype, void_prototype, definition, section, last_var, next_var, end_part, else_part, elif_part, Returns, no_return, return, Body, body, Main, main, File, Forms, file, has_groups, whole_of}
+use Rattle.c_grammar.specs.Grammar.{at, Changes, assignment, input_taken, compound_assignment, count_behind, count_before, Clause, no_clause, clause, Qualifier, LocalDeclarator, uninitialised, initialised, from_call, Shape, Writes, none, more, choice, local, static_local, last_local, next_local, ends, otherwise, elif, change, call, void_call, assert, skip, block, while, for, if_then, if_else, declared, Part, Outer, Vars, Later, Declares, nothing, variables, prototype, void_prototype, definition, section, last_var, next_var, end_part, else_part, elif_part, Returns, no_return, return, Body, body, Main, main, File, Forms, file, has_groups, held_of, whole_of}
 use Rattle.c_grammar.specs.Facts.{AreConditionsOf, Conditioned}
 
 cut : (n : ℕ) (xs ys : List Item) → AreConditionsOf n (xs ++ ys) → AreConditionsOf n xs × AreConditionsOf n ys
@@ -48,6 +50,7 @@ code_numbered n none h = tt
 code_numbered n (more {b} {ts} {us} {c} {d} s l) h = let r = cut n ts us h in followed_numbered n c d (code_numbered n s r.0) (code_numbered n l r.1)
 code_numbered n (choice p m {ts} {us} {vs} s t l) h = let r = cut n ts (us ++ vs) h.1 in let q = cut n us vs r.1 in (h.0, code_numbered n s r.0, code_numbered n t q.0, code_numbered n l q.1)
 code_numbered n (local {ts} {us} {vs} {c} {d} q v l) h = let k = cut n us vs (cut n ts (us ++ vs) h).1 in followed_numbered n c d (code_numbered n v k.0) (code_numbered n l k.1)
+code_numbered n (static_local p {ts} {us} {vs} q v l) h = code_numbered n l (cut n us vs (cut n ts (us ++ vs) h.1).1).1
 code_numbered n (last_local p d) h = local_numbered n d
 code_numbered n (next_local p {ts} {us} {c} {d} o v) h = followed_numbered n c d (local_numbered n o) (code_numbered n v (cut n ts (at p signs.Comma ∷ us) h).1.1)
 code_numbered n (ends p) h = tt
@@ -120,11 +123,13 @@ main_numbered n (main q r s t u {ts} {us} {vs} y o b) h =
 file_numbered : (n : ℕ) (items : List Item) (f : File) → Forms items f → AreConditionsOf n items → IsNumbered n f.body × All (IsGuarded n) f.declared
 file_numbered n _ _ (file {us} {vs} d m) h = let k = cut n us vs h in (main_numbered n m k.1, declared_numbered n d (All-nil (IsBelow n)) k.0)
 
-whole_numbered : (n : ℕ) (names : List (List ℕ)) (items : List Item) (f : File) → IsNumbered n f.body × All (IsGuarded n) f.declared → IsConditioned n (whole_of names items f)
-whole_numbered n names items f h = record {
-  body = h.0;
-  declared = elim (has_groups items) as (λ b. All (IsGuarded n) (cond b f.declared [])) [ true ↦ h.1 | false ↦ All-nil (IsGuarded n) ];
-}
+whole_numbered : (n : ℕ) (names : List (List ℕ)) (items : List Item) (f : File) → AreConditionsOf n items → IsNumbered n f.body × All (IsGuarded n) f.declared → IsConditioned n (whole_of names items f)
+whole_numbered n names items f k h =
+    let held : All (IsGuarded n) (held_of items f) = All-append (IsGuarded n) f.declared (statics_by items) h.1 (statics_guarded n items k) in
+    record {
+      body = h.0;
+      declared = elim (has_groups items) as (λ b. All (IsGuarded n) (cond b (held_of items f) [])) [ true ↦ held | false ↦ All-nil (IsGuarded n) ];
+    }
 
 pub conditioned_law : Conditioned
-conditioned_law n names items p h s = subst (IsConditioned n) (sym s.is) (whole_numbered n names items s.file (file_numbered n items s.file s.forms h))
+conditioned_law n names items p h s = subst (IsConditioned n) (sym s.is) (whole_numbered n names items s.file h (file_numbered n items s.file s.forms h))

@@ -16,21 +16,21 @@ use Rattle.c_grammar.specs.Machine.{run, start}
 use Rattle.c_grammar.specs.Deep.{Wrong, Deep, guarded}
 
 -- the place of the n-th item
-abbrev place : ℕ → Place
+abbrev pub place : ℕ → Place
 place n = record { line = 1; column = n }
 
-abbrev placed : ℕ → List Sign → List Item
+abbrev pub placed : ℕ → List Sign → List Item
 placed n [] = []
 placed n (s ∷ ss) = at (place n) s ∷ placed (n + 1) ss
 
-abbrev items : List Sign → List Item
+abbrev pub items : List Sign → List Item
 items ss = placed 0 ss
 
-abbrev guard : ℕ → Bool → Guard
+abbrev pub guard : ℕ → Bool → Guard
 guard n b = record { number = n; positive = b }
 
 -- int main ( ) {
-abbrev head : List Sign
+abbrev pub head : List Sign
 head = signs.Int ∷ signs.Main ∷ signs.Open ∷ signs.Close ∷ signs.LeftBrace ∷ []
 
 -- int x = - 3 , y ; static int x ; extern int input ( void ) ;

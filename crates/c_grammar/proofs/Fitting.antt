@@ -11,10 +11,12 @@ use Rattle.c_tree.specs.Value.{least, IsInt}
 use Rattle.c_tree.specs.Fit.{IsTermOf, IsCodeOf, IsPlain}
 use Rattle.c_tree.specs.Project.{projected_start}
 use Rattle.c_tree.specs.Whole.{IsDeclaredOf}
+use Rattle.c_grammar.specs.Statics.{statics_by}
+use Rattle.c_grammar.proofs.HeldStatics.{zero_is_int, statics_fit}
 use Rattle.c_grammar.specs.declared.items.Item.{Item}
 use Rattle.c_grammar.specs.declared.items.Sign.{Sign}
 use Rattle.c_grammar.specs.declared.items.Sign.TheVariants as signs
-use Rattle.c_grammar.specs.Grammar.{at, Prefix, Positive, Negative, Inverse, applied, Expresses, number, name, group, prefix, loose, binary, Changes, assignment, input_taken, compound_assignment, count_behind, count_before, Clause, no_clause, clause, Tests, no_test, test, LocalDeclarator, uninitialised, initialised, from_call, Shape, Writes, none, more, choice, local, last_local, next_local, ends, otherwise, elif, change, call, void_call, assert, skip, block, while, for, if_then, if_else, Qualifier, Unqualified, Constant, Counted, behind, unqualified, const_before, const_behind, Begins, only_type, then_type, enumeration, Declarator, bare, positive, negative, counted, Defines, defined, negative_defined, enclosed, negative_enclosed, declared, Part, Outer, Vars, Later, Declares, nothing, variables, prototype, void_prototype, definition, section, last_var, next_var, end_part, else_part, elif_part, Returns, no_return, return, Body, body, Main, main, File, Forms, file, has_groups, zeros}
+use Rattle.c_grammar.specs.Grammar.{at, Prefix, Positive, Negative, Inverse, applied, Expresses, number, name, group, prefix, loose, binary, Changes, assignment, input_taken, compound_assignment, count_behind, count_before, Clause, no_clause, clause, Tests, no_test, test, LocalDeclarator, uninitialised, initialised, from_call, Shape, Writes, none, more, choice, local, static_local, last_local, next_local, ends, otherwise, elif, change, call, void_call, assert, skip, block, while, for, if_then, if_else, Qualifier, Unqualified, Constant, Counted, behind, unqualified, const_before, const_behind, Begins, only_type, then_type, enumeration, Declarator, bare, positive, negative, counted, Defines, defined, negative_defined, enclosed, negative_enclosed, declared, Part, Outer, Vars, Later, Declares, nothing, variables, prototype, void_prototype, definition, section, last_var, next_var, end_part, else_part, elif_part, Returns, no_return, return, Body, body, Main, main, File, Forms, file, has_groups, zeros, held_of}
 use Rattle.c_grammar.specs.Facts.{AreFit, WellFormed, PlainWithoutGroups}
 use Rattle.c_tree.proofs.Starts.{length-start, ints-start}
 use Rattle.c_grammar.proofs.Keeping.{no_groups}
@@ -78,6 +80,7 @@ code_fits n none h = tt
 code_fits n (more {b} {ts} {us} {c} {d} s l) h = let r = fit_split n ts us h in followed_fits n c d (code_fits n s r.0) (code_fits n l r.1)
 code_fits n (choice p m {ts} {us} {vs} s t l) h = let r = fit_split n ts (us ++ vs) h.1 in let q = fit_split n us vs r.1 in (code_fits n s r.0, code_fits n t q.0, code_fits n l q.1)
 code_fits n (local {ts} {us} {vs} {c} {d} q v l) h = let k = fit_split n us vs (fit_split n ts (us ++ vs) h).1 in followed_fits n c d (code_fits n v k.0) (code_fits n l k.1)
+code_fits n (static_local p {ts} {us} {vs} q v l) h = code_fits n l (fit_split n us vs (fit_split n ts (us ++ vs) h.1).1).1
 code_fits n (last_local p {ts} d) h = local_fits n d (fit_split n ts (at p signs.Semicolon ∷ []) h).0
 code_fits n (next_local p {ts} {us} {c} {d} o v) h = let k = fit_split n ts (at p signs.Comma ∷ us) h in followed_fits n c d (local_fits n o k.0) (code_fits n v k.1.1)
 code_fits n (ends p) h = tt
@@ -205,6 +208,7 @@ code_plain none h = tt
 code_plain (more {b} {ts} {us} {c} {d} s l) h = let r = no_groups ts us h in followed_plain c d (code_plain s r.0) (code_plain l r.1)
 code_plain (choice p m s t l) h = absurd cc
 code_plain (local {ts} {us} {vs} {c} {d} q v l) h = let k = no_groups us vs (no_groups ts (us ++ vs) h).1 in followed_plain c d (code_plain v k.0) (code_plain l k.1)
+code_plain (static_local p {ts} {us} {vs} q v l) h = code_plain l (no_groups us vs (no_groups ts (us ++ vs) h).1).1
 code_plain (last_local p d) h = local_plain d
 code_plain (next_local p {ts} {us} {c} {d} o v) h = followed_plain c d (local_plain o) (code_plain v (no_groups ts (at p signs.Comma ∷ us) h).1)
 code_plain (ends p) h = tt
@@ -240,7 +244,7 @@ file_plain : (items : List Item) (f : File) → Forms items f → has_groups ite
 file_plain _ _ (file {us} {vs} d m) h = main_plain m (no_groups us vs h).1
 
 pub plain_law : PlainWithoutGroups
-plain_law names items f h s = record { body = file_plain items f s h; declared = ap (λ (b : Bool). cond b f.declared []) h }
+plain_law names items f h s = record { body = file_plain items f s h; declared = ap (λ (b : Bool). cond b (held_of items f) []) h }
 
 -- ---- programs
 
@@ -262,9 +266,6 @@ file_code_fits n _ _ (file {us} {vs} d m) h = main_fits n m (fit_split n us vs h
 file_declared_fits : (n : ℕ) (items : List Item) (f : File) → Forms items f → AreFit n items → All (IsDeclaredOf n) f.declared
 file_declared_fits n _ _ (file {us} {vs} d m) h = declared_fits n tt d (fit_split n us vs h).0
 
-zero_is_int : IsInt (pos 0)
-zero_is_int = record { low = omega (arith, ints); high = omega (arith, ints) }
-
 zeros_int : (names : List (List ℕ)) → All IsInt (zeros names)
 zeros_int [] = All-nil IsInt
 zeros_int (x ∷ names) = All-cons IsInt (pos 0) (zeros names) zero_is_int (zeros_int names)
@@ -277,19 +278,19 @@ pub well_formed_law : WellFormed
 well_formed_law names items f few fit rising within =
     let n : ℕ = length names in
     let forms : Forms items f = forms_plain within in
-    let ds : All (IsDeclaredOf n) f.declared = file_declared_fits n items f forms fit in
+    let ds : All (IsDeclaredOf n) (held_of items f) = All-append (IsDeclaredOf n) f.declared (statics_by items) (file_declared_fits n items f forms fit) (statics_fit n items fit) in
     let fine = fine_files items f (read_within items f within) in
     record {
       few = few;
-      starts = elim (has_groups items) as (λ b. length (cond b (zeros names) (projected_start [] f.declared (zeros names))) ≡ n) [
+      starts = elim (has_groups items) as (λ b. length (cond b (zeros names) (projected_start [] (held_of items f) (zeros names))) ≡ n) [
         | true ↦ zeros_count names
-        | false ↦ length-start [] f.declared 0 (zeros names) ∙ zeros_count names
+        | false ↦ length-start [] (held_of items f) 0 (zeros names) ∙ zeros_count names
       ];
-      ints = elim (has_groups items) as (λ b. All IsInt (cond b (zeros names) (projected_start [] f.declared (zeros names)))) [
+      ints = elim (has_groups items) as (λ b. All IsInt (cond b (zeros names) (projected_start [] (held_of items f) (zeros names)))) [
         | true ↦ zeros_int names
-        | false ↦ ints-start [] f.declared n 0 (zeros names) ds (zeros_int names)
+        | false ↦ ints-start [] (held_of items f) n 0 (zeros names) ds (zeros_int names)
       ];
-      declared = elim (has_groups items) as (λ b. All (IsDeclaredOf n) (cond b f.declared [])) [ true ↦ ds | false ↦ All-nil (IsDeclaredOf n) ];
+      declared = elim (has_groups items) as (λ b. All (IsDeclaredOf n) (cond b (held_of items f) [])) [ true ↦ ds | false ↦ All-nil (IsDeclaredOf n) ];
       names = file_code_fits n items f forms fit;
       rising = rising_part (file_part items f forms) rising;
       nested = fine.0;

@@ -14,7 +14,7 @@ use Rattle.c_grammar.specs.declared.items.Sign.{Sign}
 use Rattle.c_grammar.specs.declared.items.Sign.TheVariants as signs
 use Rattle.c_grammar.specs.declared.items.Item.{Item}
 use Rattle.c_grammar.specs.Grammar.{Count, tighter, updated, Positive, Negative, Inverse, Qualifier, Unqualified, Constant, Counted, File}
-use Rattle.c_grammar.specs.Machine.{Frame, Paren, Pre, Left, Stack, Top, Braces, Yes, No, ThenOf, ElseOf, LoopOf, Site, AsStatement, AsStart, AsStep, Use, ToAssign, ToInitialise, ToUpdate, ToAssert, ToChoose, ToLoop, ToRepeat, Pending, OfStatement, OfLocal, Sections, Outermost, InPart, InLast, Aim, ToPrototype, ToMain, Tailing, Another, ReadingState, Outside, AfterStatic, AfterExtern, AfterConst, AfterEnum, AfterVoidType, AfterType, Leading, NoWord, StaticWord, ExternWord, ConstWord, TypeWords, OneInt, OneSigned, WholeType, Declaring, Bare, Starting, Negating, Started, Listing, Enumerated, AfterDefine, Defining, NegativeDefining, Enclosing, NegativeEnclosing, Enclosed, Parameters, InParameters, AfterVoid, AfterParameters, Ready, LocalConst, LocalType, NextLocal, LocalNamed, Ended, Wants, Has, Counting, Named, Opens, ForOpens, StartComes, TestComes, StepComes, VoidComes, VoidCloses, CallComes, CallOpens, CallCloses, Finishing, Returning, Returned, Closing, Over, settle, ended_change, closed_change, input_of, want, tested, closed_by, assigned, ended_by, initialised, followed_by, have, folded, else_of, linked, opened, braced, returned, next_part, last_part, group_end, in_list, begin, on, named, counting, changing, start_comes, test_comes, step_comes, local_end, const_word, next_local, behind_local_type, local_type, without_initialiser, local_named, finishing, at_open, at_close, at_semicolon, at_void, at_function, at_void_function, next_condition, last_section, section_end, outside, behind_extern, behind_static, declaring, qualifying, main_of, first_word, naming, behind_type, after_type, after_enum, listed, declaration_end, enumeration_end, started, listing, counts_on, without_value, is_bare, starting, negating, after_define, defined_as, defining, negative_defining, enclosing, negative_enclosing, in_parameters, after_parameters, returning, closing, over, with_declared, step, finish, start}
+use Rattle.c_grammar.specs.Machine.{Frame, Paren, Pre, Left, Stack, Top, Braces, Yes, No, ThenOf, ElseOf, LoopOf, Site, AsStatement, AsStart, AsStep, Use, ToAssign, ToInitialise, ToUpdate, ToAssert, ToChoose, ToLoop, ToRepeat, Pending, OfStatement, OfLocal, Sections, Outermost, InPart, InLast, Aim, ToPrototype, ToMain, Tailing, Another, ReadingState, Outside, AfterStatic, AfterExtern, AfterConst, AfterEnum, AfterVoidType, AfterType, Leading, NoWord, StaticWord, ExternWord, ConstWord, TypeWords, OneInt, OneSigned, WholeType, Declaring, Bare, Starting, Negating, Started, Listing, Enumerated, AfterDefine, Defining, NegativeDefining, Enclosing, NegativeEnclosing, Enclosed, Parameters, InParameters, AfterVoid, AfterParameters, Ready, LocalConst, LocalType, NextLocal, LocalNamed, Ended, Wants, Has, Counting, Named, Opens, ForOpens, StartComes, TestComes, StepComes, VoidComes, VoidCloses, CallComes, CallOpens, CallCloses, Finishing, Returning, Returned, Closing, Over, settle, ended_change, closed_change, input_of, want, tested, closed_by, assigned, ended_by, initialised, followed_by, have, folded, else_of, linked, opened, braced, returned, next_part, last_part, group_end, in_list, begin, on, named, counting, changing, start_comes, test_comes, step_comes, local_end, const_word, next_local, behind_local_type, local_type, without_initialiser, local_named, finishing, at_open, at_close, at_semicolon, at_void, at_function, at_void_function, next_condition, last_section, section_end, outside, behind_extern, behind_static, declaring, qualifying, main_of, first_word, naming, behind_type, after_type, after_enum, listed, declaration_end, enumeration_end, started, listing, counts_on, without_value, is_bare, starting, negating, after_define, defined_as, defining, negative_defining, enclosing, negative_enclosing, in_parameters, after_parameters, returning, closing, over, with_declared, step, finish, start, InStatic, BehindStatic, StaticPart, BehindStaticConst, BehindStaticType, BeforeStaticName, BehindStaticName, BehindStaticEquals, BehindStaticMinus, BehindStaticNumber, static_word, behind_static_word, static_name, behind_static_type, static_type, static_end, static_bare, static_named, static_value, static_negative, static_step}
 use Rattle.c_grammar.specs.Deep.{depth, opens_more, is_nested, counted, is_long, is_deep, Fault, ended, went, guarded}
 
 max_parts : (a b k m : ℕ) → max a b + k ≤ m → (a + k ≤ m) × (b + k ≤ m)
@@ -140,6 +140,7 @@ StateFits (LocalConst outer) k = Fits outer
 StateFits (LocalType kind words outer) k = Fits outer
 StateFits (NextLocal kind outer) k = Fits outer
 StateFits (LocalNamed kind p x outer) k = Fits outer
+StateFits (InStatic part outer) k = Fits outer
 StateFits (Ended outer c) k = Fits outer × Fine (depth outer) c
 StateFits (Wants fs u) k = UseFits u × (weight fs ≤ k) × (k ≤ 64)
 StateFits (Has fs u e) k = UseFits u × (weight fs + operators e ≤ k) × (k ≤ 64)
@@ -213,6 +214,7 @@ list_fits (LoopOf _ p e advance outer) next k h = tt
 begin_fits : (outer : Stack) (p : Place) (s : Sign) (k : ℕ) → (opens_more s && leb 64 (depth outer)) ≡ false → Fits outer → IfSome (begin outer p s) (λ next. StateFits next k)
 unfolding StateFits SiteFits IsFlat UseFits PendingFits
 begin_fits outer p (signs.Name x) k l h = h
+begin_fits outer p signs.Static k l h = list_fits outer (InStatic BehindStatic outer) k h
 begin_fits outer p signs.Const k l h = list_fits outer (LocalConst outer) k h
 begin_fits outer p signs.Int k l h = list_fits outer (LocalType Unqualified OneInt outer) k h
 begin_fits outer p signs.Int32 k l h = list_fits outer (LocalType Unqualified WholeType outer) k h
@@ -429,6 +431,72 @@ local_type_fits kind outer p s words h = behind_local_type_fits kind outer p s h
 uninitialised_fits : (kind : Qualifier) (p : Place) (x : ℕ) (outer : Stack) (s : Sign) → Fits outer → IfSome (without_initialiser kind p x outer s) (λ next. StateFits next 0)
 uninitialised_fits Unqualified p x outer s h = local_end_fits Unqualified outer (Input p x Done) s h (depth_fits outer h, tt)
 uninitialised_fits kind p x outer s h = tt
+
+-- in a static declaration of `main`
+word_fits : (kind : Qualifier) (outer : Stack) (s : Sign) → Fits outer → IfSome (static_word kind outer s) (λ next. StateFits next 0)
+unfolding StateFits
+word_fits kind outer signs.Int h = h
+word_fits kind outer signs.Int32 h = h
+word_fits kind outer signs.Signed h = h
+word_fits kind outer _ h = tt
+
+static_name_fits : (kind : Qualifier) (outer : Stack) (s : Sign) → Fits outer → IfSome (static_name kind outer s) (λ next. StateFits next 0)
+unfolding StateFits
+static_name_fits kind outer (signs.Name x) h = h
+static_name_fits kind outer _ h = tt
+
+behind_static_fits : (kind : Qualifier) (outer : Stack) (s : Sign) → Fits outer → IfSome (behind_static_type kind outer s) (λ next. StateFits next 0)
+unfolding StateFits
+behind_static_fits Unqualified outer signs.Const h = h
+behind_static_fits kind outer s h = static_name_fits kind outer s h
+
+static_type_fits : (kind : Qualifier) (outer : Stack) (s : Sign) (words : TypeWords) → Fits outer → IfSome (static_type kind outer s words) (λ next. StateFits next 0)
+unfolding StateFits
+static_type_fits kind outer signs.Signed OneInt h = h
+static_type_fits kind outer signs.Int OneSigned h = h
+static_type_fits kind outer s words h = behind_static_fits kind outer s h
+
+static_end_fits : (kind : Qualifier) (outer : Stack) (s : Sign) → Fits outer → IfSome (static_end kind outer s) (λ next. StateFits next 0)
+unfolding StateFits
+static_end_fits kind outer signs.Semicolon h = h
+static_end_fits kind outer signs.Comma h = h
+static_end_fits kind outer _ h = tt
+
+static_bare_fits : (kind : Qualifier) (outer : Stack) (s : Sign) → Fits outer → IfSome (static_bare kind outer s) (λ next. StateFits next 0)
+static_bare_fits Unqualified outer s h = static_end_fits Unqualified outer s h
+static_bare_fits Constant outer s h = tt
+static_bare_fits (Counted last) outer s h = tt
+
+static_named_fits : (kind : Qualifier) (outer : Stack) (s : Sign) → Fits outer → IfSome (static_named kind outer s) (λ next. StateFits next 0)
+unfolding StateFits
+static_named_fits kind outer signs.Equals h = h
+static_named_fits kind outer s h = static_bare_fits kind outer s h
+
+static_value_fits : (kind : Qualifier) (outer : Stack) (s : Sign) → Fits outer → IfSome (static_value kind outer s) (λ next. StateFits next 0)
+unfolding StateFits
+static_value_fits kind outer (signs.Number n) h = h
+static_value_fits kind outer (signs.Oper Sub) h = h
+static_value_fits kind outer _ h = tt
+
+static_negative_fits : (kind : Qualifier) (outer : Stack) (s : Sign) → Fits outer → IfSome (static_negative kind outer s) (λ next. StateFits next 0)
+unfolding StateFits
+static_negative_fits kind outer (signs.Number n) h = h
+static_negative_fits kind outer _ h = tt
+
+behind_word_fits : (outer : Stack) (s : Sign) → Fits outer → IfSome (behind_static_word outer s) (λ next. StateFits next 0)
+unfolding StateFits
+behind_word_fits outer signs.Const h = h
+behind_word_fits outer s h = word_fits Unqualified outer s h
+
+static_part_fits : (part : StaticPart) (outer : Stack) (s : Sign) → Fits outer → IfSome (static_step part outer s) (λ next. StateFits next 0)
+static_part_fits BehindStatic outer s h = behind_word_fits outer s h
+static_part_fits BehindStaticConst outer s h = word_fits Constant outer s h
+static_part_fits (BehindStaticType kind words) outer s h = static_type_fits kind outer s words h
+static_part_fits (BeforeStaticName kind) outer s h = static_name_fits kind outer s h
+static_part_fits (BehindStaticName kind) outer s h = static_named_fits kind outer s h
+static_part_fits (BehindStaticEquals kind) outer s h = static_value_fits kind outer s h
+static_part_fits (BehindStaticMinus kind) outer s h = static_negative_fits kind outer s h
+static_part_fits (BehindStaticNumber kind) outer s h = static_end_fits kind outer s h
 
 local_named_fits : (kind : Qualifier) (p : Place) (x : ℕ) (outer : Stack) (s : Sign) → Fits outer → IfSome (local_named kind p x outer s) (λ next. StateFits next 0)
 unfolding StateFits UseFits weight
@@ -704,6 +772,7 @@ step_fits (LocalConst outer) p s k d l h = const_word_fits outer s h
 step_fits (LocalType kind words outer) p s k d l h = local_type_fits kind outer p s words h
 step_fits (NextLocal kind outer) p s k d l h = next_local_fits kind outer p s h
 step_fits (LocalNamed kind q x outer) p s k d l h = local_named_fits kind q x outer s h
+step_fits (InStatic part outer) p s k d l h = static_part_fits part outer s h
 step_fits (Ended outer c) p s k d l h = on_fits outer c p s 0 d h.0 h.1
 step_fits (Wants fs u) p s k d l h = want_fits fs u p s k l h
 step_fits (Has fs u e) p s k d l h = have_fits fs u e p s k l h

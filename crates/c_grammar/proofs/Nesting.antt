@@ -8,7 +8,7 @@ use Rattle.c_tree.specs.Tree.{Term, Code}
 use Rattle.c_grammar.specs.declared.items.Item.{Item}
 use Rattle.c_grammar.specs.declared.items.Sign.{Sign}
 use Rattle.c_grammar.specs.declared.items.Sign.TheVariants as signs
-use Rattle.c_grammar.specs.Grammar.{at, Prefix, Positive, Negative, Inverse, prefix_sign, Expresses, number, name, group, prefix, loose, binary, Update, Sum, Difference, Product, Quotient, Remainder, update_sign, Count, Raise, Lower, count_sign, LocalDeclarator, uninitialised, initialised, from_call, Shape, Listed, Stated, Chained, Locals, Writes, none, more, choice, local, last_local, next_local, ends, otherwise, elif, change, Callable, of_input, of_function, Changes, assignment, input_taken, compound_assignment, count_behind, count_before, Clause, no_clause, clause, Tests, no_test, test, call, void_call, assert, skip, block, while, for, if_then, if_else, Optional, absent, present, Typed, int, int32, signed, signed_int, int_signed, Qualifier, Unqualified, Constant, Counted, behind, Qualified, unqualified, const_before, const_behind, Begins, only_type, then_type, enumeration, Declarator, bare, positive, negative, counted, Ending, variables_end, constants_end, enumeration_end, comma_end, Defines, defined, negative_defined, enclosed, negative_enclosed, Part, Outer, Vars, Later, Declares, nothing, variables, prototype, void_prototype, definition, section, last_var, next_var, end_part, else_part, elif_part, Returns, no_return, return, Gap, Gaps, GapRest, Empty, no_more, empty_section, empty_end, empty_else, empty_elif, Body, body, Main, main, File, Forms, file}
+use Rattle.c_grammar.specs.Grammar.{at, Prefix, Positive, Negative, Inverse, prefix_sign, Expresses, number, name, group, prefix, loose, binary, Update, Sum, Difference, Product, Quotient, Remainder, update_sign, Count, Raise, Lower, count_sign, LocalDeclarator, uninitialised, initialised, from_call, Shape, Listed, Stated, Chained, Locals, Writes, none, more, choice, local, static_local, last_local, next_local, ends, otherwise, elif, change, Callable, of_input, of_function, Changes, assignment, input_taken, compound_assignment, count_behind, count_before, Clause, no_clause, clause, Tests, no_test, test, call, void_call, assert, skip, block, while, for, if_then, if_else, Optional, absent, present, Typed, int, int32, signed, signed_int, int_signed, Qualifier, Unqualified, Constant, Counted, behind, Qualified, unqualified, const_before, const_behind, Begins, only_type, then_type, enumeration, Declarator, bare, positive, negative, counted, Ending, variables_end, constants_end, enumeration_end, comma_end, Defines, defined, negative_defined, enclosed, negative_enclosed, Part, Outer, Vars, Later, Declares, nothing, variables, prototype, void_prototype, definition, section, last_var, next_var, end_part, else_part, elif_part, Returns, no_return, return, Gap, Gaps, GapRest, Empty, no_more, empty_section, empty_end, empty_else, empty_elif, Body, body, Main, main, File, Forms, file}
 
 -- ---- what nests
 
@@ -142,40 +142,6 @@ return_flat : {ts : List Item} {c : Code} → Returns ts c → AreFlat ts
 return_flat no_return = tt
 return_flat (return p q r n) = (refl, (refl, (refl, tt)))
 
--- ---- statements
-
-abbrev pub ShapeNests : Shape → List Item → Type 0
-ShapeNests Listed ts = Nests Whole ts
-ShapeNests (Stated b) ts = Nests Whole ts
-ShapeNests Chained ts = Nests Rest ts
-ShapeNests (Locals kind) ts = AreFlat ts
-
--- an expression behind an open parenthesis and what stands behind it
-closed : {ts : List Item} {e : Term} (s : Expresses 6 ts e) {us : List Item} → Nests Whole us → Nests Whole (ts ++ us)
-closed {ts} s d = flat_before ts (expr_flat s) d
-
-pub code_nests : {s : Shape} {ts : List Item} {c : Code} → Writes s ts c → ShapeNests s ts
-code_nests none = no_item
-code_nests (more s l) = nests_both (code_nests s) (code_nests l)
-code_nests (choice p n s t l) = parts p n (code_nests s) (code_nests t) (code_nests l)
-code_nests (local {ts} {us} {vs} q v l) = flat_before ts (qualified_flat q) (flat_before us (code_nests v) (code_nests l))
-code_nests (last_local p {ts} d) = flat_both ts (at p signs.Semicolon ∷ []) (local_flat d) (refl, tt)
-code_nests (next_local p {ts} {us} d v) = flat_both ts (at p signs.Comma ∷ us) (local_flat d) (refl, code_nests v)
-code_nests (ends p) = last_end p
-code_nests (otherwise p q s) = last_part p q (code_nests s)
-code_nests (elif p n s t) = next_part p n (code_nests s) (code_nests t)
-code_nests (change r {ts} d) = flat_before ts (change_flat d) (flat _ refl no_item)
-code_nests (call p q r s g) = flat _ (function_flat g) (flat _ refl (flat _ refl (flat _ refl no_item)))
-code_nests (void_call p q r s t u v g) = flat _ refl (flat _ refl (flat _ refl (flat _ (function_flat g) (flat _ refl (flat _ refl (flat _ refl no_item))))))
-code_nests (assert p q r s e) = flat _ refl (flat _ refl (closed e (flat _ refl (flat _ refl no_item))))
-code_nests (skip p) = flat _ refl no_item
-code_nests (block p q s) = braces p q (code_nests s) no_item
-code_nests (while p q r e s) = flat _ refl (flat _ refl (closed e (flat _ refl (code_nests s))))
-code_nests (for p q r z {b} {ts} {us} {vs} {ws} a t d s) =
-    flat _ refl (flat _ refl (flat_before ts (clause_flat a) (flat _ refl (flat_before us (tests_flat t) (flat_before vs (clause_flat d) (flat _ refl (code_nests s)))))))
-code_nests (if_then p q r e s) = flat _ refl (flat _ refl (closed e (flat _ refl (code_nests s))))
-code_nests (if_else p q r z e s t) = flat _ refl (flat _ refl (closed e (flat _ refl (nests_both (code_nests s) (flat _ refl (code_nests t))))))
-
 -- ---- declarations
 
 -- declarators up to the brace of an `enum`, and that brace with its semicolon
@@ -255,6 +221,41 @@ declared_nests (next_var p gs {us} {vs} {n} {kind} d v) = more_vars kind us (at 
 declared_nests (end_part p gs) = last_end p
 declared_nests (else_part p q gs d) = last_part p q (declared_nests d)
 declared_nests (elif_part p n gs a b) = next_part p n (declared_nests a) (declared_nests b)
+
+-- ---- statements
+
+abbrev pub ShapeNests : Shape → List Item → Type 0
+ShapeNests Listed ts = Nests Whole ts
+ShapeNests (Stated b) ts = Nests Whole ts
+ShapeNests Chained ts = Nests Rest ts
+ShapeNests (Locals kind) ts = AreFlat ts
+
+-- an expression behind an open parenthesis and what stands behind it
+closed : {ts : List Item} {e : Term} (s : Expresses 6 ts e) {us : List Item} → Nests Whole us → Nests Whole (ts ++ us)
+closed {ts} s d = flat_before ts (expr_flat s) d
+
+pub code_nests : {s : Shape} {ts : List Item} {c : Code} → Writes s ts c → ShapeNests s ts
+code_nests none = no_item
+code_nests (more s l) = nests_both (code_nests s) (code_nests l)
+code_nests (choice p n s t l) = parts p n (code_nests s) (code_nests t) (code_nests l)
+code_nests (local {ts} {us} {vs} q v l) = flat_before ts (qualified_flat q) (flat_before us (code_nests v) (code_nests l))
+code_nests (static_local p {ts} {us} q v l) = flat _ refl (flat_before ts (qualified_flat q) (flat_before us (typed_vars us q (declared_nests v)) (code_nests l)))
+code_nests (last_local p {ts} d) = flat_both ts (at p signs.Semicolon ∷ []) (local_flat d) (refl, tt)
+code_nests (next_local p {ts} {us} d v) = flat_both ts (at p signs.Comma ∷ us) (local_flat d) (refl, code_nests v)
+code_nests (ends p) = last_end p
+code_nests (otherwise p q s) = last_part p q (code_nests s)
+code_nests (elif p n s t) = next_part p n (code_nests s) (code_nests t)
+code_nests (change r {ts} d) = flat_before ts (change_flat d) (flat _ refl no_item)
+code_nests (call p q r s g) = flat _ (function_flat g) (flat _ refl (flat _ refl (flat _ refl no_item)))
+code_nests (void_call p q r s t u v g) = flat _ refl (flat _ refl (flat _ refl (flat _ (function_flat g) (flat _ refl (flat _ refl (flat _ refl no_item))))))
+code_nests (assert p q r s e) = flat _ refl (flat _ refl (closed e (flat _ refl (flat _ refl no_item))))
+code_nests (skip p) = flat _ refl no_item
+code_nests (block p q s) = braces p q (code_nests s) no_item
+code_nests (while p q r e s) = flat _ refl (flat _ refl (closed e (flat _ refl (code_nests s))))
+code_nests (for p q r z {b} {ts} {us} {vs} {ws} a t d s) =
+    flat _ refl (flat _ refl (flat_before ts (clause_flat a) (flat _ refl (flat_before us (tests_flat t) (flat_before vs (clause_flat d) (flat _ refl (code_nests s)))))))
+code_nests (if_then p q r e s) = flat _ refl (flat _ refl (closed e (flat _ refl (code_nests s))))
+code_nests (if_else p q r z e s t) = flat _ refl (flat _ refl (closed e (flat _ refl (nests_both (code_nests s) (flat _ refl (code_nests t))))))
 
 -- ---- files
 

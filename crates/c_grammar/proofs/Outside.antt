@@ -8,7 +8,7 @@ use Rattle.c_tree.specs.Tree.{Term, Code}
 use Rattle.c_grammar.specs.declared.items.Item.{Item}
 use Rattle.c_grammar.specs.declared.items.Sign.{Sign}
 use Rattle.c_grammar.specs.declared.items.Sign.TheVariants as signs
-use Rattle.c_grammar.specs.Grammar.{at, Prefix, Positive, Negative, Inverse, prefix_sign, Expresses, number, name, group, prefix, loose, binary, Update, Sum, Difference, Product, Quotient, Remainder, update_sign, Count, Raise, Lower, count_sign, LocalDeclarator, uninitialised, initialised, from_call, Shape, Listed, Stated, Chained, Locals, Writes, none, more, choice, local, last_local, next_local, ends, otherwise, elif, change, Callable, of_input, of_function, Changes, assignment, input_taken, compound_assignment, count_behind, count_before, Clause, no_clause, clause, Tests, no_test, test, call, void_call, assert, skip, block, while, for, if_then, if_else, Optional, absent, present, Typed, int, int32, signed, signed_int, int_signed, Qualifier, Qualified, unqualified, const_before, const_behind, Begins, only_type, then_type, enumeration, Declarator, bare, positive, negative, counted, Ending, variables_end, constants_end, enumeration_end, comma_end, Defines, defined, negative_defined, enclosed, negative_enclosed, Part, Outer, Vars, Later, Declares, nothing, variables, prototype, void_prototype, definition, section, last_var, next_var, end_part, else_part, elif_part, Returns, no_return, return, Gap, Empty, no_more, empty_section, empty_end, empty_else, empty_elif, Body, body, Main, main, file}
+use Rattle.c_grammar.specs.Grammar.{at, Prefix, Positive, Negative, Inverse, prefix_sign, Expresses, number, name, group, prefix, loose, binary, Update, Sum, Difference, Product, Quotient, Remainder, update_sign, Count, Raise, Lower, count_sign, LocalDeclarator, uninitialised, initialised, from_call, Shape, Listed, Stated, Chained, Locals, Writes, none, more, choice, local, static_local, last_local, next_local, ends, otherwise, elif, change, Callable, of_input, of_function, Changes, assignment, input_taken, compound_assignment, count_behind, count_before, Clause, no_clause, clause, Tests, no_test, test, call, void_call, assert, skip, block, while, for, if_then, if_else, Optional, absent, present, Typed, int, int32, signed, signed_int, int_signed, Qualifier, Qualified, unqualified, const_before, const_behind, Begins, only_type, then_type, enumeration, Declarator, bare, positive, negative, counted, Ending, variables_end, constants_end, enumeration_end, comma_end, Defines, defined, negative_defined, enclosed, negative_enclosed, Part, Outer, Vars, Later, Declares, nothing, variables, prototype, void_prototype, definition, section, last_var, next_var, end_part, else_part, elif_part, Returns, no_return, return, Gap, Empty, no_more, empty_section, empty_end, empty_else, empty_elif, Body, body, Main, main, file}
 use Rattle.c_grammar.specs.Locals.{AreOutside, DirectivesStandOutside}
 
 -- text in front of which directives may stand: where they stand outside declarators in what follows it, they do in the whole
@@ -83,58 +83,6 @@ local_outside (uninitialised p x) w h = (tt, h (Some x))
 local_outside (initialised p q x e) w h = (tt, (tt, expr_runs e (Some x) w (h (Some x))))
 local_outside (from_call p q r s t x g) w h = (tt, (tt, function_outside false (Some x) r (at s signs.Open ∷ at t signs.Close ∷ w) g (tt, (tt, h (Some x)))))
 
--- ---- statements
-
--- a change, and what stands in the parentheses of a `for`
-change_outside : {ts : List Item} {c : Code} → Changes ts c → Leaves ts
-change_outside (assignment p q x e) = λ w h. (tt, (tt, expr_runs e None w h))
-change_outside (input_taken p q r s t x g) = λ w h. (tt, (tt, function_outside false None r (at s signs.Open ∷ at t signs.Close ∷ w) g (tt, (tt, h))))
-change_outside (compound_assignment p q x u {ts} e) = λ w h. (tt, update_outside u q (ts ++ w) (expr_runs e None w h))
-change_outside (count_behind p q x u) = λ w h. (tt, count_outside u q w h)
-change_outside (count_before p q x u) = λ w h. count_outside u p (at q (signs.Name x) ∷ w) (tt, h)
-
-clause_outside : {ts : List Item} {c : Code} → Clause ts c → Leaves ts
-clause_outside no_clause = λ w h. h
-clause_outside (clause d) = change_outside d
-
-tests_outside : {us : List Item} {t : Place} {e : Term} → Tests us t e → Leaves us
-tests_outside (no_test s) = λ w h. (tt, h)
-tests_outside (test s {x} {ts} e) = both (x ∷ ts) (at s signs.Semicolon ∷ []) (λ w h. expr_runs e None w h) (λ w h. (tt, h))
-
--- the declarators of a declaration stand behind its type
-abbrev ShapeLeaves : Shape → List Item → Type 0
-ShapeLeaves Listed ts = Leaves ts
-ShapeLeaves (Stated b) ts = Leaves ts
-ShapeLeaves Chained ts = Leaves ts
-ShapeLeaves (Locals kind) ts = (w : List Item) → AreOutside false None w → AreOutside true None (ts ++ w)
-
-code_outside : {s : Shape} {ts : List Item} {c : Code} → Writes s ts c → ShapeLeaves s ts
-code_outside none = λ w h. h
-code_outside (more {b} {ts} {us} s l) = both ts us (code_outside s) (code_outside l)
-code_outside (choice p n {ts} {us} {vs} s t l) = λ w h. ((refl, refl), both ts (us ++ vs) (code_outside s) (both us vs (code_outside t) (code_outside l)) w h)
-code_outside (local {ts} {us} {vs} q v l) = λ w h.
-    let re : (ts ++ (us ++ vs)) ++ w ≡ ts ++ (us ++ (vs ++ w)) = simp append_assoc in
-    subst (AreOutside false None) (sym re) (qualified_outside q (us ++ (vs ++ w)) (code_outside v (vs ++ w) (code_outside l w h)))
-code_outside (last_local p {ts} d) = λ w h. subst (AreOutside true None) (sym (append_assoc ts (at p signs.Semicolon ∷ []) w)) (local_outside d (at p signs.Semicolon ∷ w) (λ opened. (tt, h)))
-code_outside (next_local p {ts} {us} d v) = λ w h. subst (AreOutside true None) (sym (append_assoc ts (at p signs.Comma ∷ us) w)) (local_outside d (at p signs.Comma ∷ (us ++ w)) (λ opened. (tt, code_outside v w h)))
-code_outside (ends p) = λ w h. ((refl, refl), h)
-code_outside (otherwise p q {ts} s) = λ w h. ((refl, refl), both ts (at q signs.GroupEnd ∷ []) (code_outside s) (λ v i. ((refl, refl), i)) w h)
-code_outside (elif p n {ts} {us} s t) = λ w h. ((refl, refl), both ts us (code_outside s) (code_outside t) w h)
-code_outside (change r {ts} d) = both ts (at r signs.Semicolon ∷ []) (change_outside d) (λ w h. (tt, h))
-code_outside (call p q r s g) = λ w h. function_outside false None p (at q signs.Open ∷ at r signs.Close ∷ at s signs.Semicolon ∷ w) g (tt, (tt, (tt, h)))
-code_outside (void_call p q r s t u v g) = λ w h. (tt, (tt, (tt, function_outside false None s (at t signs.Open ∷ at u signs.Close ∷ at v signs.Semicolon ∷ w) g (tt, (tt, (tt, h))))))
-code_outside (assert p q r s e) = λ w h. (tt, (tt, closed e (at r signs.Close ∷ at s signs.Semicolon ∷ []) w (tt, (tt, h))))
-code_outside (skip p) = λ w h. (tt, h)
-code_outside (block p q {ts} s) = λ w h. (tt, both ts (at q signs.RightBrace ∷ []) (code_outside s) (λ v i. (tt, i)) w h)
-code_outside (while p q r {b} {ts} {us} e s) = λ w h. (tt, (tt, closed e (at r signs.Close ∷ us) w (tt, code_outside s w h)))
-code_outside (for p q r z {b} {ts} {us} {vs} {ws} a t d s) = λ w h.
-    let step : Leaves (vs ++ at z signs.Close ∷ ws) = both vs (at z signs.Close ∷ ws) (clause_outside d) (λ v i. (tt, code_outside s v i)) in
-    let tests : Leaves (us ++ (vs ++ at z signs.Close ∷ ws)) = both us (vs ++ at z signs.Close ∷ ws) (tests_outside t) step in
-    (tt, (tt, both ts (at r signs.Semicolon ∷ (us ++ (vs ++ at z signs.Close ∷ ws))) (clause_outside a) (λ v i. (tt, tests v i)) w h))
-code_outside (if_then p q r {b} {ts} {us} e s) = λ w h. (tt, (tt, closed e (at r signs.Close ∷ us) w (tt, code_outside s w h)))
-code_outside (if_else p q r z {b} {ts} {us} {vs} e s t) = λ w h.
-    (tt, (tt, closed e (at r signs.Close ∷ (us ++ at z signs.Else ∷ vs)) w (tt, both us (at z signs.Else ∷ vs) (code_outside s) (λ v i. (tt, code_outside t v i)) w h)))
-
 -- ---- declarations
 
 -- what stands before the declarators: the first one of an `enum` stands behind its brace
@@ -207,6 +155,61 @@ declared_outside (next_var p gs {us} {vs} d v) = λ declaring w h.
 declared_outside (end_part p gs) = λ w h. ((refl, refl), h)
 declared_outside (else_part p q gs {us} d) = λ w h. ((refl, refl), both us (at q signs.GroupEnd ∷ []) (declared_outside d) (λ v i. ((refl, refl), i)) w h)
 declared_outside (elif_part p n gs {us} {vs} a b) = λ w h. ((refl, refl), both us vs (declared_outside a) (declared_outside b) w h)
+
+-- ---- statements
+
+-- a change, and what stands in the parentheses of a `for`
+change_outside : {ts : List Item} {c : Code} → Changes ts c → Leaves ts
+change_outside (assignment p q x e) = λ w h. (tt, (tt, expr_runs e None w h))
+change_outside (input_taken p q r s t x g) = λ w h. (tt, (tt, function_outside false None r (at s signs.Open ∷ at t signs.Close ∷ w) g (tt, (tt, h))))
+change_outside (compound_assignment p q x u {ts} e) = λ w h. (tt, update_outside u q (ts ++ w) (expr_runs e None w h))
+change_outside (count_behind p q x u) = λ w h. (tt, count_outside u q w h)
+change_outside (count_before p q x u) = λ w h. count_outside u p (at q (signs.Name x) ∷ w) (tt, h)
+
+clause_outside : {ts : List Item} {c : Code} → Clause ts c → Leaves ts
+clause_outside no_clause = λ w h. h
+clause_outside (clause d) = change_outside d
+
+tests_outside : {us : List Item} {t : Place} {e : Term} → Tests us t e → Leaves us
+tests_outside (no_test s) = λ w h. (tt, h)
+tests_outside (test s {x} {ts} e) = both (x ∷ ts) (at s signs.Semicolon ∷ []) (λ w h. expr_runs e None w h) (λ w h. (tt, h))
+
+-- the declarators of a declaration stand behind its type
+abbrev ShapeLeaves : Shape → List Item → Type 0
+ShapeLeaves Listed ts = Leaves ts
+ShapeLeaves (Stated b) ts = Leaves ts
+ShapeLeaves Chained ts = Leaves ts
+ShapeLeaves (Locals kind) ts = (w : List Item) → AreOutside false None w → AreOutside true None (ts ++ w)
+
+code_outside : {s : Shape} {ts : List Item} {c : Code} → Writes s ts c → ShapeLeaves s ts
+code_outside none = λ w h. h
+code_outside (more {b} {ts} {us} s l) = both ts us (code_outside s) (code_outside l)
+code_outside (choice p n {ts} {us} {vs} s t l) = λ w h. ((refl, refl), both ts (us ++ vs) (code_outside s) (both us vs (code_outside t) (code_outside l)) w h)
+code_outside (local {ts} {us} {vs} q v l) = λ w h.
+    let re : (ts ++ (us ++ vs)) ++ w ≡ ts ++ (us ++ (vs ++ w)) = simp append_assoc in
+    subst (AreOutside false None) (sym re) (qualified_outside q (us ++ (vs ++ w)) (code_outside v (vs ++ w) (code_outside l w h)))
+code_outside (static_local p {ts} {us} {vs} q v l) = λ w h.
+    let re : (ts ++ (us ++ vs)) ++ w ≡ ts ++ (us ++ (vs ++ w)) = simp append_assoc in
+    (tt, subst (AreOutside false None) (sym re) (qualified_outside q (us ++ (vs ++ w)) (declared_outside v true (vs ++ w) (code_outside l w h))))
+code_outside (last_local p {ts} d) = λ w h. subst (AreOutside true None) (sym (append_assoc ts (at p signs.Semicolon ∷ []) w)) (local_outside d (at p signs.Semicolon ∷ w) (λ opened. (tt, h)))
+code_outside (next_local p {ts} {us} d v) = λ w h. subst (AreOutside true None) (sym (append_assoc ts (at p signs.Comma ∷ us) w)) (local_outside d (at p signs.Comma ∷ (us ++ w)) (λ opened. (tt, code_outside v w h)))
+code_outside (ends p) = λ w h. ((refl, refl), h)
+code_outside (otherwise p q {ts} s) = λ w h. ((refl, refl), both ts (at q signs.GroupEnd ∷ []) (code_outside s) (λ v i. ((refl, refl), i)) w h)
+code_outside (elif p n {ts} {us} s t) = λ w h. ((refl, refl), both ts us (code_outside s) (code_outside t) w h)
+code_outside (change r {ts} d) = both ts (at r signs.Semicolon ∷ []) (change_outside d) (λ w h. (tt, h))
+code_outside (call p q r s g) = λ w h. function_outside false None p (at q signs.Open ∷ at r signs.Close ∷ at s signs.Semicolon ∷ w) g (tt, (tt, (tt, h)))
+code_outside (void_call p q r s t u v g) = λ w h. (tt, (tt, (tt, function_outside false None s (at t signs.Open ∷ at u signs.Close ∷ at v signs.Semicolon ∷ w) g (tt, (tt, (tt, h))))))
+code_outside (assert p q r s e) = λ w h. (tt, (tt, closed e (at r signs.Close ∷ at s signs.Semicolon ∷ []) w (tt, (tt, h))))
+code_outside (skip p) = λ w h. (tt, h)
+code_outside (block p q {ts} s) = λ w h. (tt, both ts (at q signs.RightBrace ∷ []) (code_outside s) (λ v i. (tt, i)) w h)
+code_outside (while p q r {b} {ts} {us} e s) = λ w h. (tt, (tt, closed e (at r signs.Close ∷ us) w (tt, code_outside s w h)))
+code_outside (for p q r z {b} {ts} {us} {vs} {ws} a t d s) = λ w h.
+    let step : Leaves (vs ++ at z signs.Close ∷ ws) = both vs (at z signs.Close ∷ ws) (clause_outside d) (λ v i. (tt, code_outside s v i)) in
+    let tests : Leaves (us ++ (vs ++ at z signs.Close ∷ ws)) = both us (vs ++ at z signs.Close ∷ ws) (tests_outside t) step in
+    (tt, (tt, both ts (at r signs.Semicolon ∷ (us ++ (vs ++ at z signs.Close ∷ ws))) (clause_outside a) (λ v i. (tt, tests v i)) w h))
+code_outside (if_then p q r {b} {ts} {us} e s) = λ w h. (tt, (tt, closed e (at r signs.Close ∷ us) w (tt, code_outside s w h)))
+code_outside (if_else p q r z {b} {ts} {us} {vs} e s t) = λ w h.
+    (tt, (tt, closed e (at r signs.Close ∷ (us ++ at z signs.Else ∷ vs)) w (tt, both us (at z signs.Else ∷ vs) (code_outside s) (λ v i. (tt, code_outside t v i)) w h)))
 
 -- ---- files
 

@@ -7,7 +7,7 @@ use Rattle.c_tree.specs.Tree.{Term, Code, Done, If, While, Cond, followed}
 use Rattle.c_grammar.specs.declared.items.Sign.TheVariants as signs
 use Rattle.c_grammar.specs.declared.items.Item.{Item}
 use Rattle.c_grammar.specs.Ahead.{IsList}
-use Rattle.c_grammar.specs.Grammar.{at, Listed, Stated, Qualifier, Qualified, LocalDeclarator, Changes, clause, Writes, none, more, choice, local, last_local, next_local, change, while, for, if_then, if_else}
+use Rattle.c_grammar.specs.Grammar.{at, Listed, Stated, Qualifier, Qualified, LocalDeclarator, Changes, clause, Writes, none, more, choice, local, static_local, last_local, next_local, change, while, for, if_then, if_else}
 use Rattle.c_grammar.specs.Machine.{Stack, Top, Braces, Yes, No, ThenOf, ElseOf, LoopOf, Site, AsStatement, AsStart, AsStep, folded, ended_change, closed_change}
 use Rattle.c_grammar.proofs.Standing.{LoopHead, while_head, for_head, Read, AtSite, InDeclaration, PendsAt, Piece, Stands}
 use Rattle.c_grammar.proofs.Complete.{followed-none, followed-assoc, folded-none, folded-twice}
@@ -27,6 +27,9 @@ joined {us = us} {d = d} (choice p n {ts = ts} {us = vs} {vs = ws} {c} {d = e} {
 joined {us = us} {d = d} (local {ts = ts} {us = vs} {vs = ws} {c} {d = e} q s l) t =
     let is : (ts ++ (vs ++ ws)) ++ us ≡ ts ++ (vs ++ (ws ++ us)) = append_assoc ts (vs ++ ws) us ∙ ap (λ (x : List Item). ts ++ x) (append_assoc vs ws us) in
     subst (λ (y : Code). Writes Listed ((ts ++ (vs ++ ws)) ++ us) y) (sym (followed-assoc c e d)) (subst (λ (y : List Item). Writes Listed y (followed c (followed e d))) (sym is) (local q s (joined l t)))
+joined {us = us} {d = d} (static_local p {ts = ts} {us = vs} {vs = ws} {c} q v l) t =
+    let is : (ts ++ (vs ++ ws)) ++ us ≡ ts ++ (vs ++ (ws ++ us)) = append_assoc ts (vs ++ ws) us ∙ ap (λ (x : List Item). ts ++ x) (append_assoc vs ws us) in
+    subst (λ (y : List Item). Writes Listed (at p signs.Static ∷ y) (followed c d)) (sym is) (static_local p q v (joined l t))
 
 pub piece : (d : Bool) (outer : Stack) (ts : List Item) (c : Code) → Writes (Stated d) ts c → Piece d outer ts c
 piece d (Top ds made) ts c s = single s

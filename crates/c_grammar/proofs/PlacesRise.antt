@@ -8,7 +8,7 @@ use Rattle.c_tree.specs.Whole.{IsBeforeAll, IsRising}
 use Rattle.c_tree.proofs.Listed.{places_of-followed}
 use Rattle.c_grammar.specs.declared.items.Item.{Item}
 use Rattle.c_grammar.specs.declared.items.Sign.TheVariants as signs
-use Rattle.c_grammar.specs.Grammar.{at, update_sign, count_sign, Changes, assignment, input_taken, compound_assignment, count_behind, count_before, Clause, no_clause, clause, Tests, no_test, test, Qualifier, LocalDeclarator, uninitialised, initialised, from_call, Shape, Writes, none, more, choice, local, last_local, next_local, ends, otherwise, elif, change, call, void_call, assert, skip, block, while, for, if_then, if_else, Returns, no_return, return, Body, body, Main, main, File, Forms, file}
+use Rattle.c_grammar.specs.Grammar.{at, update_sign, count_sign, Changes, assignment, input_taken, compound_assignment, count_behind, count_before, Clause, no_clause, clause, Tests, no_test, test, Qualifier, LocalDeclarator, uninitialised, initialised, from_call, Shape, Writes, none, more, choice, local, static_local, last_local, next_local, ends, otherwise, elif, change, call, void_call, assert, skip, block, while, for, if_then, if_else, Returns, no_return, return, Body, body, Main, main, File, Forms, file}
 use Rattle.c_grammar.specs.Facts.{IsBeforeItems, AreRising}
 
 -- the places are those of some of the items
@@ -72,6 +72,7 @@ code_part none = end
 code_part (more {b} {ts} {us} {c} {d} s l) = subst (λ (y : List Place). IsPart y (ts ++ us)) (sym (places_of-followed c d)) (joined (code_part s) (code_part l))
 code_part (choice p m s t l) = pass (at p (signs.GroupIf m)) (joined (code_part s) (joined (code_part t) (code_part l)))
 code_part (local {ts} {us} {vs} {c} {d} q v l) = subst (λ (y : List Place). IsPart y (ts ++ (us ++ vs))) (sym (places_of-followed c d)) (pass_all ts (joined (code_part v) (code_part l)))
+code_part (static_local p {ts} {us} q v l) = pass (at p signs.Static) (pass_all ts (pass_all us (code_part l)))
 code_part (last_local p d) = before (at p signs.Semicolon ∷ []) (local_part d)
 code_part (next_local p {ts} {us} {c} {d} o v) = subst (λ (y : List Place). IsPart y (ts ++ at p signs.Comma ∷ us)) (sym (places_of-followed c d)) (joined (local_part o) (pass (at p signs.Comma) (code_part v)))
 code_part (ends p) = pass (at p signs.GroupEnd) end

@@ -6,10 +6,11 @@ use Rattle.fam_outer.specs.declared.faults.Place.{Place}
 use Rattle.c_grammar.specs.declared.items.Sign.{Sign}
 use Rattle.c_grammar.specs.declared.items.Item.{Item}
 use Rattle.c_grammar.specs.Grammar.{at, no_more, File, file_of, Forms, file}
-use Rattle.c_grammar.specs.Machine.{Outermost, ReadingState, Outside, AfterStatic, AfterExtern, AfterConst, AfterEnum, AfterVoidType, AfterType, Declaring, Bare, Starting, Negating, Started, Listing, Enumerated, AfterDefine, Defining, NegativeDefining, Enclosing, NegativeEnclosing, Enclosed, Parameters, InParameters, AfterVoid, AfterParameters, Ready, LocalConst, LocalType, NextLocal, LocalNamed, Ended, Wants, Has, Counting, Named, Opens, ForOpens, StartComes, TestComes, StepComes, VoidComes, VoidCloses, CallComes, CallOpens, CallCloses, Finishing, Returning, Returned, Closing, Over, step, finish, at_end, moved, run, start}
+use Rattle.c_grammar.specs.Machine.{Outermost, ReadingState, Outside, AfterStatic, AfterExtern, AfterConst, AfterEnum, AfterVoidType, AfterType, Declaring, Bare, Starting, Negating, Started, Listing, Enumerated, AfterDefine, Defining, NegativeDefining, Enclosing, NegativeEnclosing, Enclosed, Parameters, InParameters, AfterVoid, AfterParameters, Ready, LocalConst, LocalType, NextLocal, LocalNamed, Ended, Wants, Has, Counting, Named, Opens, ForOpens, StartComes, TestComes, StepComes, VoidComes, VoidCloses, CallComes, CallOpens, CallCloses, Finishing, Returning, Returned, Closing, Over, step, finish, at_end, moved, run, start, InStatic}
 use Rattle.c_grammar.proofs.Standing.{Tail, Stands}
 use Rattle.c_grammar.proofs.SoundExpressions.{want_keeps, have_keeps}
 use Rattle.c_grammar.proofs.SoundStatements.{begin_keeps, on_keeps, counting_keeps, named_keeps, opens_keeps, for_opens_keeps, start_comes_keeps, test_comes_keeps, step_comes_keeps, const_word_keeps, local_type_keeps, next_local_keeps, local_named_keeps, void_comes_keeps, void_closes_keeps, call_comes_keeps, call_opens_keeps, call_closes_keeps, finishing_keeps}
+use Rattle.c_grammar.proofs.SoundStatics.{static_part_keeps}
 use Rattle.c_grammar.proofs.SoundDefinitions.{define_keeps, defining_keeps, negative_defining_keeps, enclosing_keeps, negative_enclosing_keeps, enclosed_keeps}
 use Rattle.c_grammar.proofs.SoundFiles.{outside_keeps, static_keeps, extern_keeps, const_keeps, enum_keeps, void_type_keeps, type_keeps, declaring_keeps, bare_keeps, starting_keeps, negating_keeps, started_keeps, listing_keeps, enumerated_keeps, parameters_keeps, in_parameters_keeps, void_keeps, after_parameters_keeps}
 use Rattle.c_grammar.proofs.SoundEnds.{returning_keeps, return_end_keeps, closing_keeps, over_keeps}
@@ -44,6 +45,7 @@ keeps (LocalConst outer) p s a r = const_word_keeps outer p s a r
 keeps (LocalType kind words outer) p s a r = local_type_keeps kind outer p s words a r
 keeps (NextLocal kind outer) p s a r = next_local_keeps kind outer p s a r
 keeps (LocalNamed kind q x outer) p s a r = local_named_keeps kind q x outer p s a r
+keeps (InStatic part outer) p s a r = static_part_keeps part outer p s a r
 keeps (Ended outer c) p s a r = on_keeps outer c p s a r
 keeps (Wants fs u) p s a r = want_keeps fs u p s a r.0 (r.1 p s)
 keeps (Has fs u e) p s a r = have_keeps fs u e p s a r

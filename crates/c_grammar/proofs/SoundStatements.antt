@@ -9,7 +9,7 @@ use Rattle.c_grammar.specs.declared.items.Sign.TheVariants as signs
 use Rattle.c_grammar.specs.declared.items.Item.{Item}
 use Rattle.c_grammar.specs.Ahead.{IsList}
 use Rattle.c_grammar.specs.Grammar.{at, Count, Raise, Lower, count_sign, Callable, of_input, of_function, count_behind, count_before, no_clause, no_test, int32, signed_int, int_signed, Qualifier, Unqualified, Constant, Counted, Qualified, unqualified, const_before, const_behind, LocalDeclarator, uninitialised, Listed, Chained, Writes, none, choice, ends, otherwise, elif, call, void_call, skip, block, if_else, no_return, return, body, file_of, Forms}
-use Rattle.c_grammar.specs.Machine.{Stack, Top, Braces, Yes, No, ThenOf, ElseOf, LoopOf, Site, AsStatement, AsStart, AsStep, Use, ToAssign, ToInitialise, ToUpdate, ToAssert, ToChoose, ToLoop, ToRepeat, Pending, OfStatement, OfLocal, TypeWords, OneInt, OneSigned, WholeType, ReadingState, LocalConst, LocalType, LocalNamed, Ended, Wants, Counting, Named, ForOpens, StartComes, TestComes, StepComes, VoidComes, VoidCloses, CallComes, CallOpens, CallCloses, Finishing, folded, else_of, linked, opened, braced, returned, next_part, last_part, group_end, in_list, begin, on, named, counting, changing, start_comes, test_comes, step_comes, local_end, const_word, next_local, behind_local_type, local_type, without_initialiser, local_named, at_open, at_close, finishing, at_void, at_function}
+use Rattle.c_grammar.specs.Machine.{Stack, Top, Braces, Yes, No, ThenOf, ElseOf, LoopOf, Site, AsStatement, AsStart, AsStep, Use, ToAssign, ToInitialise, ToUpdate, ToAssert, ToChoose, ToLoop, ToRepeat, Pending, OfStatement, OfLocal, TypeWords, OneInt, OneSigned, WholeType, ReadingState, LocalConst, LocalType, LocalNamed, Ended, Wants, Counting, Named, ForOpens, StartComes, TestComes, StepComes, VoidComes, VoidCloses, CallComes, CallOpens, CallCloses, Finishing, folded, else_of, linked, opened, braced, returned, next_part, last_part, group_end, in_list, begin, on, named, counting, changing, start_comes, test_comes, step_comes, local_end, const_word, next_local, behind_local_type, local_type, without_initialiser, local_named, at_open, at_close, finishing, at_void, at_function, InStatic, BehindStatic}
 use Rattle.c_grammar.proofs.Standing.{Begun, for_head, Read, AtSite, InDeclaration, UsedAt, Pends, Piece, one_int, one_signed, whole_type, LocalWords, variable_words, constant_words, Stands}
 use Rattle.c_grammar.proofs.Complete.{followed-none}
 use Rattle.c_grammar.proofs.Pieces.{piece, listed, loops, fold_is, change_pends, change_ends, change_closes, declaration_begins, declaration_goes_on, declaration_ends}
@@ -116,6 +116,7 @@ in_list_keeps (LoopOf start q e advance outer) next a h = tt
 
 pub begin_keeps : (outer : Stack) (p : Place) (s : Sign) (a : List Item) → Read outer a → IfSome (begin outer p s) (λ next. Stands next (a ++ at p s ∷ []))
 begin_keeps outer p (signs.Name x) a r = (a, r, refl)
+begin_keeps outer p signs.Static a r = in_list_keeps outer (InStatic BehindStatic outer) (a ++ at p signs.Static ∷ []) (λ is. (p, a, r, is, refl))
 begin_keeps outer p signs.Const a r = in_list_keeps outer (LocalConst outer) (a ++ at p signs.Const ∷ []) (λ is. (p, a, r, is, refl))
 begin_keeps outer p signs.Int a r = in_list_keeps outer (LocalType Unqualified OneInt outer) (a ++ at p signs.Int ∷ []) (λ is. (a, at p signs.Int ∷ [], r, is, variable_words (one_int p), refl))
 begin_keeps outer p signs.Int32 a r = in_list_keeps outer (LocalType Unqualified WholeType outer) (a ++ at p signs.Int32 ∷ []) (λ is. (a, at p signs.Int32 ∷ [], r, is, variable_words (whole_type (int32 p)), refl))
@@ -216,20 +217,20 @@ next_local_keeps kind outer p (signs.Name x) a d = (a, d, refl)
 next_local_keeps kind outer p _ a d = tt
 
 -- a whole type
-words_qualified : {kind : Qualifier} {t : TypeWords} {us : List Item} → LocalWords kind t us → Qualified kind us
+pub words_qualified : {kind : Qualifier} {t : TypeWords} {us : List Item} → LocalWords kind t us → Qualified kind us
 words_qualified (variable_words k) = unqualified (words_typed k)
 words_qualified (constant_words p k) = const_before p (words_typed k)
 
 -- `const` behind the type
-then_const : {t : TypeWords} {us : List Item} (p : Place) → LocalWords Unqualified t us → Qualified Constant (us ++ at p signs.Const ∷ [])
+pub then_const : {t : TypeWords} {us : List Item} (p : Place) → LocalWords Unqualified t us → Qualified Constant (us ++ at p signs.Const ∷ [])
 then_const p (variable_words k) = const_behind p (words_typed k)
 
 -- a second word
-then_signed : {kind : Qualifier} {us : List Item} (p : Place) → LocalWords kind OneInt us → LocalWords kind WholeType (us ++ at p signs.Signed ∷ [])
+pub then_signed : {kind : Qualifier} {us : List Item} (p : Place) → LocalWords kind OneInt us → LocalWords kind WholeType (us ++ at p signs.Signed ∷ [])
 then_signed p (variable_words (one_int q)) = variable_words (whole_type (int_signed q p))
 then_signed p (constant_words r (one_int q)) = constant_words r (whole_type (int_signed q p))
 
-then_int : {kind : Qualifier} {us : List Item} (p : Place) → LocalWords kind OneSigned us → LocalWords kind WholeType (us ++ at p signs.Int ∷ [])
+pub then_int : {kind : Qualifier} {us : List Item} (p : Place) → LocalWords kind OneSigned us → LocalWords kind WholeType (us ++ at p signs.Int ∷ [])
 then_int p (variable_words (one_signed q)) = variable_words (whole_type (signed_int q p))
 then_int p (constant_words r (one_signed q)) = constant_words r (whole_type (signed_int q p))
 

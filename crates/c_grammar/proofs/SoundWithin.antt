@@ -12,10 +12,10 @@ use Rattle.c_grammar.specs.Grammar.{at, tighter, Prefix, Positive, Negative, Inv
 use Rattle.c_grammar.specs.Grammar as plain
 use Rattle.c_grammar.specs.Machine.{Frame, Paren, Pre, Left, room, Stack, Braces, Yes, No, ThenOf, ElseOf, LoopOf, Site, AsStatement, AsStart, AsStep, Use, ToAssign, ToInitialise, ToUpdate, ToAssert, ToChoose, ToLoop, ToRepeat, ReadingState, Ready, NextLocal, Ended, Wants, Has, Named, Opens, StartComes, TestComes, StepComes, folded, step}
 use Rattle.c_grammar.specs.Deep.{depth, opens_more, around, counted, is_deep, is_nested, is_long, Fault, went, guarded}
-use Rattle.c_grammar.specs.Within.{operators_in, more_by, Full, ChangesWithin, assignment, input_taken, compound_assignment, count_behind, count_before, ClauseWithin, no_clause, clause, TestsWithin, no_test, test, LocalWithin, uninitialised, initialised, from_call, WritesIn, none, more, choice, local, last_local, next_local, ends, otherwise, elif, change, call, void_call, assert, skip, block, while, for, if_then, if_else}
+use Rattle.c_grammar.specs.Within.{operators_in, more_by, Full, ChangesWithin, assignment, input_taken, compound_assignment, count_behind, count_before, ClauseWithin, no_clause, clause, TestsWithin, no_test, test, LocalWithin, uninitialised, initialised, from_call, WritesIn, none, more, choice, local, static_local, last_local, next_local, ends, otherwise, elif, change, call, void_call, assert, skip, block, while, for, if_then, if_else}
 use Rattle.c_grammar.proofs.Complete.{comes, expr_no_semicolon, Free, free_of, no_else, chain_no_else, locals_named, looser, settled, folded-list}
 use Rattle.c_grammar.proofs.CompleteWithin.{takes, prefix_takes, prefix_more, operators_both, expresses_within}
-use Rattle.c_grammar.proofs.StatesWithin.{token, opens_in, group_in, folds_in, depth_folded, full_in, last_token, updates_in, named_in, last_sign, start_in, step_in, tests_begin, tests_in, head_in, for_in, qualified_in, initialiser_in, next_in, accepted_in}
+use Rattle.c_grammar.proofs.StatesWithin.{token, opens_in, group_in, folds_in, depth_folded, full_in, last_token, updates_in, named_in, last_sign, start_in, step_in, tests_begin, tests_in, head_in, for_in, qualified_in, initialiser_in, next_in, accepted_in, static_in}
 
 -- ---- an item that is read
 
@@ -178,6 +178,7 @@ writes_back (plain.local {ts} {us} {vs} {c} {d} g s l) = λ k outer is e m w f f
     let first = writes_back s k outer is (vs ++ w) f h1 in
     let h2 = sym (accepted_in first outer is (vs ++ w)) ∙ h1 in
     local g first (writes_back l k (folded outer c) (folded-list outer c is) (omega (arith, e, depth_folded outer c is)) 0 w f fr h2)
+writes_back (plain.static_local p {vs = vs} q v l) = λ k outer is e m w f fr h. static_local p q v (writes_back l k outer is e 0 w f fr (sym (static_in p q v outer is m vs w) ∙ h))
 writes_back (plain.last_local p s) = λ k outer is w f h. last_local p (local_back s outer (at p signs.Semicolon) [] w f tt h)
 writes_back (plain.next_local p {ts} {us} {c} {d} s l) = λ k outer is w f h.
     let first = local_back s outer (at p signs.Comma) us w f tt h in

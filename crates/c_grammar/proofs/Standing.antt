@@ -7,9 +7,9 @@ use Rattle.c_tree.specs.Tree.{Term, Code, Done, Skip, followed}
 use Rattle.c_grammar.specs.declared.items.Sign.{Sign}
 use Rattle.c_grammar.specs.declared.items.Sign.TheVariants as signs
 use Rattle.c_grammar.specs.declared.items.Item.{Item}
-use Rattle.c_grammar.specs.Ahead.{IsList}
+use Rattle.c_grammar.specs.Ahead.{IsList, IsHeld}
 use Rattle.c_grammar.specs.Grammar.{at, tighter, prefix_sign, Expresses, update_sign, count_sign, Callable, Changes, Clause, Tests, Listed, Stated, Locals, LocalDeclarator, Writes, Optional, Typed, Qualifier, Unqualified, Constant, Counted, Begins, Declarator, Defines, with_true, with_false, Outer, Vars, Later, Declares, Gaps, GapRest, Empty, Body, Main, File, file_of, Forms}
-use Rattle.c_grammar.specs.Machine.{Tailing, Another, Final, Frame, Paren, Pre, Left, room, Stack, Top, Braces, Yes, No, ThenOf, ElseOf, LoopOf, Site, AsStatement, AsStart, AsStep, Use, ToAssign, ToInitialise, ToUpdate, ToAssert, ToChoose, ToLoop, ToRepeat, Pending, OfStatement, OfLocal, Sections, Outermost, InPart, InLast, guards_of, Aim, ToPrototype, ToMain, ReadingState, Outside, AfterStatic, AfterExtern, AfterConst, AfterEnum, AfterVoidType, AfterType, Leading, NoWord, StaticWord, ExternWord, ConstWord, TypeWords, OneInt, OneSigned, WholeType, Declaring, Bare, Starting, Negating, Started, Listing, Enumerated, AfterDefine, Defining, NegativeDefining, Enclosing, NegativeEnclosing, Enclosed, Parameters, InParameters, AfterVoid, AfterParameters, Ready, LocalConst, LocalType, NextLocal, LocalNamed, Ended, Wants, Has, Counting, Named, Opens, ForOpens, StartComes, TestComes, StepComes, VoidComes, VoidCloses, CallComes, CallOpens, CallCloses, Finishing, Returning, Returned, Closing, Over, folded}
+use Rattle.c_grammar.specs.Machine.{Tailing, Another, Final, Frame, Paren, Pre, Left, room, Stack, Top, Braces, Yes, No, ThenOf, ElseOf, LoopOf, Site, AsStatement, AsStart, AsStep, Use, ToAssign, ToInitialise, ToUpdate, ToAssert, ToChoose, ToLoop, ToRepeat, Pending, OfStatement, OfLocal, Sections, Outermost, InPart, InLast, guards_of, Aim, ToPrototype, ToMain, ReadingState, Outside, AfterStatic, AfterExtern, AfterConst, AfterEnum, AfterVoidType, AfterType, Leading, NoWord, StaticWord, ExternWord, ConstWord, TypeWords, OneInt, OneSigned, WholeType, Declaring, Bare, Starting, Negating, Started, Listing, Enumerated, AfterDefine, Defining, NegativeDefining, Enclosing, NegativeEnclosing, Enclosed, Parameters, InParameters, AfterVoid, AfterParameters, Ready, LocalConst, LocalType, NextLocal, LocalNamed, Ended, Wants, Has, Counting, Named, Opens, ForOpens, StartComes, TestComes, StepComes, VoidComes, VoidCloses, CallComes, CallOpens, CallCloses, Finishing, Returning, Returned, Closing, Over, folded, InStatic, BehindStatic, BehindStaticConst, BehindStaticType, BeforeStaticName, BehindStaticName, BehindStaticEquals, BehindStaticMinus, BehindStaticNumber, StaticPart}
 
 -- the parts of a group before this one, and its directive
 abbrev pub Begun : List (ℕ × Code) → ℕ → List Item → Type 0
@@ -160,6 +160,27 @@ pub data LocalWords : Qualifier → TypeWords → List Item → Type 0 where
   variable_words : {t : TypeWords} {us : List Item} → Words t us → LocalWords Unqualified t us
   constant_words : (p : Place) {t : TypeWords} {us : List Item} → Words t us → LocalWords Constant t (at p signs.Const ∷ us)
 
+-- where a declarator of a static declaration in `main` may begin: the list around it, and what of the declaration is read
+pub record InStaticDeclaration (kind : Qualifier) (outer : Stack) (a : List Item) : Type 0 where
+  pub start : List Item
+  pub text : List Item
+  pub is_read : Read outer start
+  pub is_list : IsList outer
+  pub is_held : IsHeld kind
+  pub goes_on : (ts : List Item) (ds : List Declared) → Declares (Vars kind []) ts ds → Writes Listed (text ++ ts) Done
+  pub parts : a ≡ start ++ text
+
+-- what of a static declaration in `main` is read
+abbrev pub StandsStatic : StaticPart → Stack → List Item → Type 0
+StandsStatic BehindStatic outer a = (p : Place) × (b : List Item) × Read outer b × IsList outer × (a ≡ b ++ at p signs.Static ∷ [])
+StandsStatic BehindStaticConst outer a = (p q : Place) × (b : List Item) × Read outer b × IsList outer × (a ≡ b ++ (at p signs.Static ∷ at q signs.Const ∷ []))
+StandsStatic (BehindStaticType kind words) outer a = (p : Place) × (b us : List Item) × Read outer b × IsList outer × LocalWords kind words us × (a ≡ b ++ at p signs.Static ∷ us)
+StandsStatic (BeforeStaticName kind) outer a = InStaticDeclaration kind outer a
+StandsStatic (BehindStaticName kind) outer a = (p : Place) × (x : ℕ) × (b : List Item) × InStaticDeclaration kind outer b × (a ≡ b ++ at p (signs.Name x) ∷ [])
+StandsStatic (BehindStaticEquals kind) outer a = (p q : Place) × (x : ℕ) × (b : List Item) × InStaticDeclaration kind outer b × (a ≡ b ++ (at p (signs.Name x) ∷ at q signs.Equals ∷ []))
+StandsStatic (BehindStaticMinus kind) outer a = (p q r : Place) × (x : ℕ) × (b : List Item) × InStaticDeclaration kind outer b × (a ≡ b ++ (at p (signs.Name x) ∷ at q signs.Equals ∷ at r (signs.Oper Sub) ∷ []))
+StandsStatic (BehindStaticNumber kind) outer a = (b ts : List Item) × (x : ℕ) × (n : ℤ) × InStaticDeclaration kind outer b × Declarator kind ts x n × (a ≡ b ++ ts)
+
 -- `const`, perhaps behind `static`
 pub data Consts : List Item → Type 0 where
   const_alone : (p : Place) → Consts (at p signs.Const ∷ [])
@@ -219,6 +240,7 @@ Stands (LocalConst outer) a = (p : Place) × (b : List Item) × Read outer b × 
 Stands (LocalType kind words outer) a = (b us : List Item) × Read outer b × IsList outer × LocalWords kind words us × (a ≡ b ++ us)
 Stands (NextLocal kind outer) a = InDeclaration kind outer a
 Stands (LocalNamed kind p x outer) a = (b : List Item) × InDeclaration kind outer b × (a ≡ b ++ at p (signs.Name x) ∷ [])
+Stands (InStatic part outer) a = StandsStatic part outer a
 Stands (Ended outer c) a = (b ts : List Item) × Read outer b × Piece false outer ts c × (a ≡ b ++ ts)
 Stands (Wants fs u) a = Framed u fs a × ((p : Place) (s : Sign) → Leads u fs (at p s ∷ []))
 Stands (Has fs u e) a = (b ts : List Item) × Framed u fs b × Leads u fs ts × Expresses 0 ts e × (a ≡ b ++ ts)

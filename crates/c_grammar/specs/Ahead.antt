@@ -3,7 +3,7 @@ use Rattle.std.specs.Prelude.{ℕ, suc, ◌≤◌, List, [], ◌∷◌}
 use Rattle.c_grammar.specs.declared.items.Sign.{Sign}
 use Rattle.c_grammar.specs.declared.items.Sign.TheVariants as signs
 use Rattle.c_grammar.specs.declared.items.Item.{Item}
-use Rattle.c_grammar.specs.Grammar.{tighter}
+use Rattle.c_grammar.specs.Grammar.{tighter, Qualifier, Unqualified, Constant, Counted}
 use Rattle.c_grammar.specs.Machine.{Stack, Top, Braces, Yes, No, ThenOf, ElseOf, LoopOf}
 
 -- an operator that comes next is not tighter than a level
@@ -32,3 +32,9 @@ IsNoElse _ = Unit {0}
 abbrev pub NoElse : List Item → Type 0
 NoElse [] = Unit {0}
 NoElse (x ∷ w) = IsNoElse x.sign
+
+-- what a type declares is not counted
+abbrev pub IsHeld : Qualifier → Type 0
+IsHeld Unqualified = Unit {0}
+IsHeld Constant = Unit {0}
+IsHeld (Counted last) = ⊥

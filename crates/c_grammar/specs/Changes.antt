@@ -8,6 +8,7 @@ use Rattle.c_grammar.specs.declared.items.Sign.{Sign}
 use Rattle.c_grammar.specs.declared.items.Sign.TheVariants as signs
 use Rattle.c_grammar.specs.Constants.{kind_after, last_from}
 use Rattle.c_grammar.specs.Locals.{open_behind}
+use Rattle.c_grammar.specs.Scopes.{is_static_behind}
 
 -- behind a name the sign changes it
 abbrev pub is_change : Sign → Bool
@@ -50,3 +51,4 @@ pub record IsTrack (before : List Item) (track : Track) : Type 0 where
   pub last : track.last ≡ last_from None before
   pub kind : track.kind ≡ kind_after kinds.Variable before
   pub opened : track.opened ≡ open_behind before
+  pub static : track.is_static ≡ is_static_behind before

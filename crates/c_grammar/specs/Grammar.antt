@@ -12,9 +12,9 @@ use Rattle.c_tree.specs.Project.{projected_start}
 use Rattle.c_grammar.specs.declared.items.Sign.{Sign}
 use Rattle.c_grammar.specs.declared.items.Sign.TheVariants as signs
 use Rattle.c_grammar.specs.declared.items.Item.{Item}
-
-abbrev pub at : Place → Sign → Item
-at p s = record { place = p; sign = s }
+use Rattle.c_grammar.specs.Statics.{statics_by}
+pub use Rattle.c_grammar.specs.Items.{at, is_group}
+pub use Rattle.c_grammar.specs.Groups.{with_true, with_false, declared}
 
 -- ---- expressions
 
@@ -163,37 +163,6 @@ pub data LocalDeclarator : Qualifier → List Item → Code → Type 0 where
   initialised : (p q : Place) (x : ℕ) {kind : Qualifier} {ts : List Item} {e : Term} → Expresses 6 ts e → LocalDeclarator kind (at p (signs.Name x) ∷ at q signs.Equals ∷ ts) (Assign p x e Done)
   from_call : (p q r s t : Place) (x : ℕ) {kind : Qualifier} {f : Sign} → Callable f → LocalDeclarator kind (at p (signs.Name x) ∷ at q signs.Equals ∷ at r f ∷ at s signs.Open ∷ at t signs.Close ∷ []) (Input p x Done)
 
--- a list; a statement, and whether it ends in an `if` without `else`; what closes a group, with its later parts; the declarators
--- of a declaration in `main`, up to its semicolon
-pub data Shape : Type 0 where
-  Listed : Shape
-  Stated : (dangles : Bool) → Shape
-  Chained : Shape
-  Locals : (kind : Qualifier) → Shape
-
--- a statement is a list of one, and a `for` a list of its loop, behind the change before the first test; an absent `else` is the
--- empty list; `#elif` opens a choice in the no side; a declaration is a list of a statement for each of its declarators
-pub data Writes : Shape → List Item → Code → Type 0 where
-  none : Writes Listed [] Done
-  more : {b : Bool} {ts us : List Item} {c d : Code} → Writes (Stated b) ts c → Writes Listed us d → Writes Listed (ts ++ us) (followed c d)
-  choice : (p : Place) (n : ℕ) {ts us vs : List Item} {c d e : Code} → Writes Listed ts c → Writes Chained us d → Writes Listed vs e → Writes Listed (at p (signs.GroupIf n) ∷ (ts ++ (us ++ vs))) (Cond n c d e)
-  local : {ts us vs : List Item} {c d : Code} {kind : Qualifier} → Qualified kind ts → Writes (Locals kind) us c → Writes Listed vs d → Writes Listed (ts ++ (us ++ vs)) (followed c d)
-  last_local : (p : Place) {ts : List Item} {c : Code} {kind : Qualifier} → LocalDeclarator kind ts c → Writes (Locals kind) (ts ++ at p signs.Semicolon ∷ []) c
-  next_local : (p : Place) {ts us : List Item} {c d : Code} {kind : Qualifier} → LocalDeclarator kind ts c → Writes (Locals kind) us d → Writes (Locals kind) (ts ++ at p signs.Comma ∷ us) (followed c d)
-  ends : (p : Place) → Writes Chained (at p signs.GroupEnd ∷ []) Done
-  otherwise : (p q : Place) {ts : List Item} {c : Code} → Writes Listed ts c → Writes Chained (at p signs.GroupElse ∷ (ts ++ at q signs.GroupEnd ∷ [])) c
-  elif : (p : Place) (n : ℕ) {ts us : List Item} {c d : Code} → Writes Listed ts c → Writes Chained us d → Writes Chained (at p (signs.GroupElif n) ∷ (ts ++ us)) (Cond n c d Done)
-  change : (r : Place) {ts : List Item} {c : Code} → Changes ts c → Writes (Stated false) (ts ++ at r signs.Semicolon ∷ []) c
-  call : (p q r s : Place) {f : Sign} → Callable f → Writes (Stated false) (at p f ∷ at q signs.Open ∷ at r signs.Close ∷ at s signs.Semicolon ∷ []) (Skip p Done)
-  void_call : (p q r s t u v : Place) {f : Sign} → Callable f → Writes (Stated false) (at p signs.Open ∷ at q signs.Void ∷ at r signs.Close ∷ at s f ∷ at t signs.Open ∷ at u signs.Close ∷ at v signs.Semicolon ∷ []) (Skip p Done)
-  assert : (p q r s : Place) {ts : List Item} {e : Term} → Expresses 6 ts e → Writes (Stated false) (at p signs.Assert ∷ at q signs.Open ∷ (ts ++ at r signs.Close ∷ at s signs.Semicolon ∷ [])) (Assert p e Done)
-  skip : (p : Place) → Writes (Stated false) (at p signs.Semicolon ∷ []) (Skip p Done)
-  block : (p q : Place) {ts : List Item} {c : Code} → Writes Listed ts c → Writes (Stated false) (at p signs.LeftBrace ∷ (ts ++ at q signs.RightBrace ∷ [])) (Block p c Done)
-  while : (p q r : Place) {b : Bool} {ts us : List Item} {e : Term} {c : Code} → Expresses 6 ts e → Writes (Stated b) us c → Writes (Stated b) (at p signs.While ∷ at q signs.Open ∷ (ts ++ at r signs.Close ∷ us)) (While p e Done c Done)
-  for : (p q r s : Place) {b : Bool} {ts us vs ws : List Item} {start step c : Code} {t : Place} {e : Term} → Clause ts start → Tests us t e → Clause vs step → Writes (Stated b) ws c → Writes (Stated b) (at p signs.For ∷ at q signs.Open ∷ (ts ++ at r signs.Semicolon ∷ (us ++ (vs ++ at s signs.Close ∷ ws)))) (followed start (While t e step c Done))
-  if_then : (p q r : Place) {b : Bool} {ts us : List Item} {e : Term} {c : Code} → Expresses 6 ts e → Writes (Stated b) us c → Writes (Stated true) (at p signs.If ∷ at q signs.Open ∷ (ts ++ at r signs.Close ∷ us)) (If p e c Done Done)
-  if_else : (p q r s : Place) {b : Bool} {ts us vs : List Item} {e : Term} {c d : Code} → Expresses 6 ts e → Writes (Stated false) us c → Writes (Stated b) vs d → Writes (Stated b) (at p signs.If ∷ at q signs.Open ∷ (ts ++ at r signs.Close ∷ (us ++ at s signs.Else ∷ vs))) (If p e c d Done)
-
 -- ---- declarations
 
 -- the first constant that is counted is 0
@@ -235,16 +204,6 @@ pub data Defines : List Item → ℕ → ℤ → Type 0 where
   enclosed : (p q r s t : Place) (x : ℕ) (n : ℤ) → Defines (at p signs.Define ∷ at q (signs.Name x) ∷ at r signs.Open ∷ at s (signs.Number n) ∷ at t signs.Close ∷ []) x n
   negative_enclosed : (p q r s t u : Place) (x : ℕ) (n : ℤ) → Defines (at p signs.Define ∷ at q (signs.Name x) ∷ at r signs.Open ∷ at s (signs.Oper Sub) ∷ at t (signs.Number n) ∷ at u signs.Close ∷ []) x (neg_ℤ n)
 
--- the guards of what stands where a condition is true, and where it is false, within these guards
-abbrev pub with_true : List Guard → ℕ → List Guard
-with_true gs n = gs ++ record { number = n; positive = true } ∷ []
-
-abbrev pub with_false : List Guard → ℕ → List Guard
-with_false gs n = gs ++ record { number = n; positive = false } ∷ []
-
-abbrev pub declared : ℕ → ℤ → List Guard → Declared
-declared x n gs = record { target = x; value = n; guards = gs }
-
 -- declarations within guards; declarators up to what ends them; what closes a group, where these guards hold in its later parts
 pub data Part : Type 0 where
   Outer : (gs : List Guard) → Part
@@ -264,6 +223,41 @@ pub data Declares : Part → List Item → List Declared → Type 0 where
   end_part : (p : Place) (gs : List Guard) → Declares (Later gs) (at p signs.GroupEnd ∷ []) []
   else_part : (p q : Place) (gs : List Guard) {us : List Item} {ds : List Declared} → Declares (Outer gs) us ds → Declares (Later gs) (at p signs.GroupElse ∷ (us ++ at q signs.GroupEnd ∷ [])) ds
   elif_part : (p : Place) (n : ℕ) (gs : List Guard) {us vs : List Item} {cs ds : List Declared} → Declares (Outer (with_true gs n)) us cs → Declares (Later (with_false gs n)) vs ds → Declares (Later gs) (at p (signs.GroupElif n) ∷ (us ++ vs)) (cs ++ ds)
+
+-- ---- lists of statements
+
+-- a list; a statement, and whether it ends in an `if` without `else`; what closes a group, with its later parts; the declarators
+-- of a declaration in `main`, up to its semicolon
+pub data Shape : Type 0 where
+  Listed : Shape
+  Stated : (dangles : Bool) → Shape
+  Chained : Shape
+  Locals : (kind : Qualifier) → Shape
+
+-- a statement is a list of one, and a `for` a list of its loop, behind the change before the first test; an absent `else` is the
+-- empty list; `#elif` opens a choice in the no side; a declaration is a list of a statement for each of its declarators,
+-- and a static one leaves no statement (6.2.4p3): its variables have their values from the start
+pub data Writes : Shape → List Item → Code → Type 0 where
+  none : Writes Listed [] Done
+  more : {b : Bool} {ts us : List Item} {c d : Code} → Writes (Stated b) ts c → Writes Listed us d → Writes Listed (ts ++ us) (followed c d)
+  choice : (p : Place) (n : ℕ) {ts us vs : List Item} {c d e : Code} → Writes Listed ts c → Writes Chained us d → Writes Listed vs e → Writes Listed (at p (signs.GroupIf n) ∷ (ts ++ (us ++ vs))) (Cond n c d e)
+  local : {ts us vs : List Item} {c d : Code} {kind : Qualifier} → Qualified kind ts → Writes (Locals kind) us c → Writes Listed vs d → Writes Listed (ts ++ (us ++ vs)) (followed c d)
+  static_local : (p : Place) {ts us vs : List Item} {ds : List Declared} {c : Code} {kind : Qualifier} → Qualified kind ts → Declares (Vars kind []) us ds → Writes Listed vs c → Writes Listed (at p signs.Static ∷ (ts ++ (us ++ vs))) c
+  last_local : (p : Place) {ts : List Item} {c : Code} {kind : Qualifier} → LocalDeclarator kind ts c → Writes (Locals kind) (ts ++ at p signs.Semicolon ∷ []) c
+  next_local : (p : Place) {ts us : List Item} {c d : Code} {kind : Qualifier} → LocalDeclarator kind ts c → Writes (Locals kind) us d → Writes (Locals kind) (ts ++ at p signs.Comma ∷ us) (followed c d)
+  ends : (p : Place) → Writes Chained (at p signs.GroupEnd ∷ []) Done
+  otherwise : (p q : Place) {ts : List Item} {c : Code} → Writes Listed ts c → Writes Chained (at p signs.GroupElse ∷ (ts ++ at q signs.GroupEnd ∷ [])) c
+  elif : (p : Place) (n : ℕ) {ts us : List Item} {c d : Code} → Writes Listed ts c → Writes Chained us d → Writes Chained (at p (signs.GroupElif n) ∷ (ts ++ us)) (Cond n c d Done)
+  change : (r : Place) {ts : List Item} {c : Code} → Changes ts c → Writes (Stated false) (ts ++ at r signs.Semicolon ∷ []) c
+  call : (p q r s : Place) {f : Sign} → Callable f → Writes (Stated false) (at p f ∷ at q signs.Open ∷ at r signs.Close ∷ at s signs.Semicolon ∷ []) (Skip p Done)
+  void_call : (p q r s t u v : Place) {f : Sign} → Callable f → Writes (Stated false) (at p signs.Open ∷ at q signs.Void ∷ at r signs.Close ∷ at s f ∷ at t signs.Open ∷ at u signs.Close ∷ at v signs.Semicolon ∷ []) (Skip p Done)
+  assert : (p q r s : Place) {ts : List Item} {e : Term} → Expresses 6 ts e → Writes (Stated false) (at p signs.Assert ∷ at q signs.Open ∷ (ts ++ at r signs.Close ∷ at s signs.Semicolon ∷ [])) (Assert p e Done)
+  skip : (p : Place) → Writes (Stated false) (at p signs.Semicolon ∷ []) (Skip p Done)
+  block : (p q : Place) {ts : List Item} {c : Code} → Writes Listed ts c → Writes (Stated false) (at p signs.LeftBrace ∷ (ts ++ at q signs.RightBrace ∷ [])) (Block p c Done)
+  while : (p q r : Place) {b : Bool} {ts us : List Item} {e : Term} {c : Code} → Expresses 6 ts e → Writes (Stated b) us c → Writes (Stated b) (at p signs.While ∷ at q signs.Open ∷ (ts ++ at r signs.Close ∷ us)) (While p e Done c Done)
+  for : (p q r s : Place) {b : Bool} {ts us vs ws : List Item} {start step c : Code} {t : Place} {e : Term} → Clause ts start → Tests us t e → Clause vs step → Writes (Stated b) ws c → Writes (Stated b) (at p signs.For ∷ at q signs.Open ∷ (ts ++ at r signs.Semicolon ∷ (us ++ (vs ++ at s signs.Close ∷ ws)))) (followed start (While t e step c Done))
+  if_then : (p q r : Place) {b : Bool} {ts us : List Item} {e : Term} {c : Code} → Expresses 6 ts e → Writes (Stated b) us c → Writes (Stated true) (at p signs.If ∷ at q signs.Open ∷ (ts ++ at r signs.Close ∷ us)) (If p e c Done Done)
+  if_else : (p q r s : Place) {b : Bool} {ts us vs : List Item} {e : Term} {c d : Code} → Expresses 6 ts e → Writes (Stated false) us c → Writes (Stated b) vs d → Writes (Stated b) (at p signs.If ∷ at q signs.Open ∷ (ts ++ at r signs.Close ∷ (us ++ at s signs.Else ∷ vs))) (If p e c d Done)
 
 -- ---- files
 
@@ -306,14 +300,6 @@ file_of ds c p = record { declared = ds; body = c; end = p }
 pub data Forms : List Item → File → Type 0 where
   file : {us vs : List Item} {ds : List Declared} {c : Code} {p : Place} → Declares (Outer []) us ds → Main vs c p → Forms (us ++ vs) (file_of ds c p)
 
--- a group directive
-abbrev pub is_group : Sign → Bool
-is_group (signs.GroupIf n) = true
-is_group (signs.GroupElif n) = true
-is_group signs.GroupElse = true
-is_group signs.GroupEnd = true
-is_group _ = false
-
 abbrev pub has_groups : List Item → Bool
 has_groups [] = false
 has_groups (x ∷ ts) = is_group x.sign || has_groups ts
@@ -321,13 +307,17 @@ has_groups (x ∷ ts) = is_group x.sign || has_groups ts
 abbrev pub zeros : List (List ℕ) → List ℤ
 zeros names = map (λ name. pos 0) names
 
+-- the declarators of a file: those that it declares before `main`, and the static ones of `main`
+abbrev pub held_of : List Item → File → List Declared
+held_of items f = f.declared ++ statics_by items
+
 -- the program of a file over a list of names: without groups it is plain, and its start values are those of the last
 -- declaration of each name, else 0; with groups it keeps the declarators
 abbrev pub whole_of : List (List ℕ) → List Item → File → Whole
 whole_of names items f = record {
   names = names;
-  start = if has_groups items then zeros names else projected_start [] f.declared (zeros names);
-  declared = if has_groups items then f.declared else [];
+  start = if has_groups items then zeros names else projected_start [] (held_of items f) (zeros names);
+  declared = if has_groups items then held_of items f else [];
   body = f.body;
   end = f.end;
 }

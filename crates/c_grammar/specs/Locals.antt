@@ -6,21 +6,9 @@ use Rattle.c_grammar.specs.declared.items.Item.{Item}
 use Rattle.c_grammar.specs.declared.items.Sign.{Sign}
 use Rattle.c_grammar.specs.declared.items.Sign.TheVariants as signs
 use Rattle.c_grammar.specs.Constants.{is_name}
+pub use Rattle.c_grammar.specs.Items.{is_main, is_declaring}
 use Rattle.c_grammar.specs.Functions.{stands_behind}
 use Rattle.c_grammar.specs.Grammar.{is_group, File, Forms}
-
-abbrev pub is_main : Sign → Bool
-is_main signs.Main = true
-is_main _ = false
-
--- behind the sign a name in `main` is declared: a comma stands there in declarations alone
-abbrev pub is_declaring : Sign → Bool
-is_declaring signs.Int = true
-is_declaring signs.Int32 = true
-is_declaring signs.Signed = true
-is_declaring signs.Const = true
-is_declaring signs.Comma = true
-is_declaring _ = false
 
 -- a name behind these items is declared in `main`
 abbrev pub declares_behind : List Item → Bool

@@ -3,14 +3,14 @@ use Rattle.std.specs.Prelude.{ℕ, ℤ, pos, neg_ℤ, ◌+ℤ◌, int_lt, suc, n
 use Rattle.fam_outer.specs.declared.faults.Place.{Place}
 use Rattle.c_tree.specs.declared.tree.Op.{Op}
 use Rattle.c_tree.specs.declared.tree.Op.TheVariants.{Add, Sub}
-use Rattle.c_tree.specs.declared.lists.Guard.{Guard}
 use Rattle.c_tree.specs.declared.lists.Declared.{Declared}
 use Rattle.c_tree.specs.Value.{greatest}
 use Rattle.c_tree.specs.Tree.{Term, Number, Var, Binary, Code, Done, Assign, Input, Assert, If, While, Block, Skip, Cond, followed}
 use Rattle.c_grammar.specs.declared.items.Sign.{Sign}
 use Rattle.c_grammar.specs.declared.items.Sign.TheVariants as signs
 use Rattle.c_grammar.specs.declared.items.Item.{Item}
-use Rattle.c_grammar.specs.Grammar.{tighter, Prefix, Positive, Negative, Inverse, applied, Update, Sum, Difference, Product, Quotient, Remainder, updated, Count, Raise, Lower, changed_by_one, Qualifier, Unqualified, Constant, Counted, uncounted, with_true, with_false, declared, File, file_of}
+pub use Rattle.c_grammar.specs.Groups.{Sections, Outermost, InPart, InLast, guards_of}
+use Rattle.c_grammar.specs.Grammar.{tighter, Prefix, Positive, Negative, Inverse, applied, Update, Sum, Difference, Product, Quotient, Remainder, updated, Count, Raise, Lower, changed_by_one, Qualifier, Unqualified, Constant, Counted, uncounted, with_false, declared, File, file_of}
 
 -- what waits for an operand
 pub data Frame : Type 0 where
@@ -58,18 +58,6 @@ pub data Pending : Type 0 where
   OfStatement : (site : Site) (c : Code) → Pending
   OfLocal : (kind : Qualifier) (outer : Stack) (c : Code) → Pending
 
--- the groups around declarations: a part with a condition, and the guards before it; the last part, with its guards
-pub data Sections : Type 0 where
-  Outermost : Sections
-  InPart : (gs : List Guard) (n : ℕ) (outer : Sections) → Sections
-  InLast : (gs : List Guard) (outer : Sections) → Sections
-
--- the guards of a declarator that stands here
-abbrev pub guards_of : Sections → List Guard
-guards_of Outermost = []
-guards_of (InPart gs n outer) = with_true gs n
-guards_of (InLast gs outer) = gs
-
 -- what stands before the type of a declaration
 pub data Leading : Type 0 where
   NoWord : Leading
@@ -82,6 +70,18 @@ pub data TypeWords : Type 0 where
   OneInt : TypeWords
   OneSigned : TypeWords
   WholeType : TypeWords
+
+-- what of a static declaration in `main` is read: `static`; `const` behind it; words of its type; what stands before a name; a name; `=`;
+-- `-`; and a number
+pub data StaticPart : Type 0 where
+  BehindStatic : StaticPart
+  BehindStaticConst : StaticPart
+  BehindStaticType : (kind : Qualifier) (words : TypeWords) → StaticPart
+  BeforeStaticName : (kind : Qualifier) → StaticPart
+  BehindStaticName : (kind : Qualifier) → StaticPart
+  BehindStaticEquals : (kind : Qualifier) → StaticPart
+  BehindStaticMinus : (kind : Qualifier) → StaticPart
+  BehindStaticNumber : (kind : Qualifier) → StaticPart
 
 -- what parentheses after a name of a function are for
 pub data Aim : Type 0 where
@@ -131,6 +131,8 @@ pub data ReadingState : Type 0 where
   LocalType : (kind : Qualifier) (words : TypeWords) (outer : Stack) → ReadingState
   NextLocal : (kind : Qualifier) (outer : Stack) → ReadingState
   LocalNamed : (kind : Qualifier) (p : Place) (x : ℕ) (outer : Stack) → ReadingState
+  -- a static declaration in `main`, which leaves no statement
+  InStatic : (part : StaticPart) (outer : Stack) → ReadingState
   -- a statement has ended; an `else` may come
   Ended : (outer : Stack) (c : Code) → ReadingState
   Wants : (fs : List Frame) (u : Use) → ReadingState
@@ -322,6 +324,7 @@ in_list (LoopOf start p e advance outer) next = None
 
 abbrev pub begin : Stack → Place → Sign → Option ReadingState
 begin outer p (signs.Name x) = Some (Named p x (AsStatement outer))
+begin outer p signs.Static = in_list outer (InStatic BehindStatic outer)
 begin outer p signs.Const = in_list outer (LocalConst outer)
 begin outer p signs.Int = in_list outer (LocalType Unqualified OneInt outer)
 begin outer p signs.Int32 = in_list outer (LocalType Unqualified WholeType outer)
@@ -423,6 +426,71 @@ without_initialiser kind p x outer s = None
 abbrev pub local_named : Qualifier → Place → ℕ → Stack → Sign → Option ReadingState
 local_named kind p x outer signs.Equals = Some (Wants [] (ToInitialise kind p x outer))
 local_named kind p x outer s = without_initialiser kind p x outer s
+
+-- ---- static declarations in `main`
+
+-- the first word of the type
+abbrev pub static_word : Qualifier → Stack → Sign → Option ReadingState
+static_word kind outer signs.Int = Some (InStatic (BehindStaticType kind OneInt) outer)
+static_word kind outer signs.Int32 = Some (InStatic (BehindStaticType kind WholeType) outer)
+static_word kind outer signs.Signed = Some (InStatic (BehindStaticType kind OneSigned) outer)
+static_word kind outer _ = None
+
+-- `const`, or the first word of the type
+abbrev pub behind_static_word : Stack → Sign → Option ReadingState
+behind_static_word outer signs.Const = Some (InStatic BehindStaticConst outer)
+behind_static_word outer s = static_word Unqualified outer s
+
+-- the name of a variable or a constant
+abbrev pub static_name : Qualifier → Stack → Sign → Option ReadingState
+static_name kind outer (signs.Name x) = Some (InStatic (BehindStaticName kind) outer)
+static_name kind outer _ = None
+
+-- `const` behind the type, or a name
+abbrev pub behind_static_type : Qualifier → Stack → Sign → Option ReadingState
+behind_static_type Unqualified outer signs.Const = Some (InStatic (BeforeStaticName Constant) outer)
+behind_static_type kind outer s = static_name kind outer s
+
+-- another word of the type, or what follows it
+abbrev pub static_type : Qualifier → Stack → Sign → TypeWords → Option ReadingState
+static_type kind outer signs.Signed OneInt = Some (InStatic (BehindStaticType kind WholeType) outer)
+static_type kind outer signs.Int OneSigned = Some (InStatic (BehindStaticType kind WholeType) outer)
+static_type kind outer s words = behind_static_type kind outer s
+
+-- the end of a declarator
+abbrev pub static_end : Qualifier → Stack → Sign → Option ReadingState
+static_end kind outer signs.Semicolon = Some (Ready outer)
+static_end kind outer signs.Comma = Some (InStatic (BeforeStaticName kind) outer)
+static_end kind outer _ = None
+
+-- without an initialiser a variable starts at 0; a constant has one
+abbrev pub static_bare : Qualifier → Stack → Sign → Option ReadingState
+static_bare Unqualified outer s = static_end Unqualified outer s
+static_bare kind outer s = None
+
+abbrev pub static_named : Qualifier → Stack → Sign → Option ReadingState
+static_named kind outer signs.Equals = Some (InStatic (BehindStaticEquals kind) outer)
+static_named kind outer s = static_bare kind outer s
+
+-- a number, or `-` before one
+abbrev pub static_value : Qualifier → Stack → Sign → Option ReadingState
+static_value kind outer (signs.Number n) = Some (InStatic (BehindStaticNumber kind) outer)
+static_value kind outer (signs.Oper Sub) = Some (InStatic (BehindStaticMinus kind) outer)
+static_value kind outer _ = None
+
+abbrev pub static_negative : Qualifier → Stack → Sign → Option ReadingState
+static_negative kind outer (signs.Number n) = Some (InStatic (BehindStaticNumber kind) outer)
+static_negative kind outer _ = None
+
+abbrev pub static_step : StaticPart → Stack → Sign → Option ReadingState
+static_step BehindStatic outer s = behind_static_word outer s
+static_step BehindStaticConst outer s = static_word Constant outer s
+static_step (BehindStaticType kind words) outer s = static_type kind outer s words
+static_step (BeforeStaticName kind) outer s = static_name kind outer s
+static_step (BehindStaticName kind) outer s = static_named kind outer s
+static_step (BehindStaticEquals kind) outer s = static_value kind outer s
+static_step (BehindStaticMinus kind) outer s = static_negative kind outer s
+static_step (BehindStaticNumber kind) outer s = static_end kind outer s
 
 -- the state, where it is this sign
 abbrev pub at_open : ReadingState → Sign → Option ReadingState
@@ -691,6 +759,7 @@ step (LocalConst outer) p s = const_word outer s
 step (LocalType kind words outer) p s = local_type kind outer p s words
 step (NextLocal kind outer) p s = next_local kind outer p s
 step (LocalNamed kind q x outer) p s = local_named kind q x outer s
+step (InStatic part outer) p s = static_step part outer s
 step (Ended outer c) p s = on outer c p s
 step (Wants fs u) p s = want fs u s
 step (Has fs u e) p s = have fs u e s

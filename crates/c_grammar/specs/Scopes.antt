@@ -1,12 +1,13 @@
 -- Which names are in scope behind a list of items (ISO/IEC 9899:2011, 6.2.1p4): those that are declared before `main`, and those of `main`
--- whose block is not left. The braces of each group are balanced, so that blocks are left alike in each variant.
-use Rattle.std.specs.Prelude.{◌≡◌, ◌<◌, ℕ, zero, suc, nat_le, Bool, false, not, ◌&&◌, ◌||◌, List, [], ◌∷◌, Option, Some, None, if◌then◌else◌}
+-- whose block is not left; and which may not be declared again. The braces of each group are balanced, so that blocks are left alike in each variant.
+use Rattle.std.specs.Prelude.{◌≡◌, ◌<◌, ℕ, zero, suc, nat_le, Bool, true, false, not, ◌&&◌, ◌||◌, List, [], ◌∷◌, ◌++◌, Option, Some, None, if◌then◌else◌}
 use Rattle.c_grammar.specs.declared.items.Item.{Item}
 use Rattle.c_grammar.specs.declared.items.Sign.{Sign}
 use Rattle.c_grammar.specs.declared.items.Sign.TheVariants as signs
 use Rattle.c_grammar.specs.Constants.{is_name}
-use Rattle.c_grammar.specs.Grammar.{File, Forms}
+use Rattle.c_grammar.specs.Grammar.{is_group, File, Forms}
 use Rattle.c_grammar.specs.Locals.{is_main, of_declarations, names_of}
+use Rattle.c_grammar.specs.Statics.{static_behind}
 
 -- ---- blocks
 
@@ -54,6 +55,40 @@ in_scope items = still_in_scope 0 items
 abbrev pub names_in_scope : List Item → List ℕ
 names_in_scope items = names_of (in_scope items)
 
+-- ---- names that are taken
+
+-- a static declaration goes on behind these items
+abbrev pub static_after : Bool → List Item → Bool
+static_after static [] = static
+static_after static (x ∷ xs) = static_after (static_behind static x.sign) xs
+
+abbrev pub is_static_behind : List Item → Bool
+is_static_behind before = static_after false before
+
+-- a name that stands here is one of `main`, and a static one where only these are asked
+abbrev pub is_local : Bool → Bool → Bool → Bool
+is_local only main static = main && (static || not only)
+
+-- the items without the names that are none of these, where what comes next stands in `main` or not, and in a static declaration or not
+abbrev pub locals_from : Bool → Bool → Bool → List Item → List Item
+locals_from only main static [] = []
+locals_from only main static (x ∷ xs) =
+    if is_name x.sign && not (is_local only main static) then locals_from only (main || is_main x.sign) (static_behind static x.sign) xs
+    else x ∷ locals_from only (main || is_main x.sign) (static_behind static x.sign) xs
+
+-- without other names than those that `main` declares, or only those that it declares as static
+abbrev pub of_locals : Bool → List Item → List Item
+of_locals only items = locals_from only false false (of_declarations items)
+
+-- without other names than those that the next declarator may not declare, whatever block they are declared in: a static variable is no other
+-- variable of `main`
+abbrev pub barred : List Item → List Item
+barred before = of_locals (not (is_static_behind before)) before
+
+-- the names that the next declarator may not declare, whatever group they are declared in
+abbrev pub names_taken : List Item → List ℕ
+names_taken before = names_in_scope before ++ names_of (barred before)
+
 -- ---- where group directives stand
 
 -- how many blocks are open behind a sign, where so many are before it
@@ -83,3 +118,16 @@ AreLevel begun depth (x ∷ xs) = IsLevel begun depth x.sign × AreLevel (begun_
 -- so it is in a file
 abbrev pub DirectivesStandLevel : Type 0
 DirectivesStandLevel = (items : List Item) (f : File) → Forms items f → AreLevel [] 0 items
+
+-- a group directive stands in no static declaration
+abbrev pub IsBeside : Bool → Bool → Type 0
+IsBeside true static = static ≡ false
+IsBeside false static = Unit {0}
+
+abbrev pub AreBeside : Bool → List Item → Type 0
+AreBeside static [] = Unit {0}
+AreBeside static (x ∷ xs) = IsBeside (is_group x.sign) static × AreBeside (static_behind static x.sign) xs
+
+-- so it is in a file
+abbrev pub DirectivesStandBeside : Type 0
+DirectivesStandBeside = (items : List Item) (f : File) → Forms items f → AreBeside false items

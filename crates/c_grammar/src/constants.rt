@@ -9,6 +9,8 @@ ghost use Rattle.c_grammar.specs.Classes.{class_of};
 ghost use Rattle.c_grammar.specs.Constants as specs;
 ghost use Rattle.c_grammar.specs.Functions as functions;
 ghost use Rattle.c_grammar.specs.Locals as locals;
+ghost use Rattle.c_grammar.specs.Scopes as scopes;
+ghost use Rattle.c_grammar.specs.Statics as statics;
 
 use crate::items::{Item, Sign};
 use fam_outer::Place;
@@ -140,13 +142,25 @@ fn opened_by(is_declaring: bool, opened: Option<u32>, sign: Sign) -> Option<u32>
     }
 }
 
-/// What the items so far tell of the next one: the last of them, what a name is that comes next, and the name in whose
-/// declarator it stands.
+/// Whether a static declaration goes on behind a sign, where one goes on before it or not.
+fn static_behind(is_static: bool, sign: Sign) -> bool
+    ensures { result ≡ statics.static_behind is_static sign }
+{
+    match sign {
+        Sign::Static => true,
+        Sign::Semicolon => false,
+        _ => is_static,
+    }
+}
+
+/// What the items so far tell of the next one: the last of them, what a name is that comes next, the name in whose declarator it
+/// stands, and whether it stands in a static declaration.
 #[derive(Clone, Copy, Debug, PartialEq, Eq)]
 pub struct Track {
     last: Option<Item>,
     kind: NameKind,
     opened: Option<u32>,
+    is_static: bool,
 }
 
 impl Track {
@@ -158,6 +172,7 @@ impl Track {
             last: None,
             kind: NameKind::Variable,
             opened: None,
+            is_static: false,
         }
     }
 
@@ -169,6 +184,7 @@ impl Track {
         self.opened = opened_by(self.declares(), self.opened, item.sign);
         self.last = Some(item);
         self.kind = kind_behind(self.kind, item.sign);
+        self.is_static = static_behind(self.is_static, item.sign);
     }
 
     /// Whether a name that comes next in `main` is declared.
@@ -196,6 +212,14 @@ impl Track {
             → result ≡ specs.is_constant (specs.kind_after kinds.Variable before) }
     {
         is_constant(self.kind)
+    }
+
+    /// Whether a name that comes next in `main` is declared as static, where it is declared.
+    pub fn is_static(&self) -> bool
+        ensures { (before : List items.Item) → changes.IsTrack before self.now
+            → result ≡ scopes.is_static_behind before }
+    {
+        self.is_static
     }
 
     /// Whether the last item is `void`, so that a function that comes next is declared without a value.

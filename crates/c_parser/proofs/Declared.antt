@@ -20,7 +20,7 @@ use Rattle.c_grammar.specs.Facts.{IsFit, AreFit}
 use Rattle.c_grammar.specs.Grammar.{at}
 use Rattle.c_grammar.specs.Constants.{is_name}
 use Rattle.c_grammar.specs.Locals.{is_main, declares_behind, declarations_from, of_declarations, is_in_own}
-use Rattle.c_grammar.specs.Scopes.{is_open_behind, scoped_from, names_in_scope}
+use Rattle.c_grammar.specs.Scopes.{is_open_behind, scoped_from, names_in_scope, names_taken}
 use Rattle.c_parser.specs.declared.names.Limits.{Limits}
 use Rattle.c_parser.specs.Signs.{keyword_of, mark_of, sign_in, marks}
 use Rattle.c_parser.specs.Items.{is_function, number_in, with_name, identifier_sign, names_with_identifier, word_sign, sign_of, names_with_word, names_with, lexeme_in, names_from, items_over}
@@ -122,9 +122,9 @@ once_more seen (n ∷ ns) w = once_more (with_name seen n) ns w
 
 -- a name that is declared comes behind them, if it is new
 declared_step : (limits : Limits) (all names : List (List ℕ)) (w : List ℕ) (before : List Item) (p : Place) → number_in all w < length all → list_any (bytes_eq w) all ≡ true → AreTold limits all names before → is_used_behind before ≡ false
-    → declaration_fault (counted limits) (names_in_scope before) (number_in all w) ≡ None → AreTold limits all (with_name names w) (before ++ at p (signs.Name (number_in all w)) ∷ [])
+    → declaration_fault (counted limits) (names_taken before) (number_in all w) ≡ None → AreTold limits all (with_name names w) (before ++ at p (signs.Name (number_in all w)) ∷ [])
 declared_step limits all names w before p lt found h used none =
-    let d = declaration_none limits (names_in_scope before) (number_in all w) none in
+    let d = declaration_none limits (names_taken before) (number_in all w) none in
     let more : declared_by (before ++ at p (signs.Name (number_in all w)) ∷ []) ≡ declared_by before ++ number_in all w ∷ [] = declared_on before (at p (signs.Name (number_in all w))) used in
     record {
       told =
@@ -148,7 +148,7 @@ name_step limits all names w before p lt h none =
       | inl new ↦ absurd (omega (arith, new.1, lt))
       | inr old ↦ old.0
     ] in
-    elim (is_used_behind before) as (λ b. is_used_behind before ≡ b → (if b then use_fault (counted limits) (is_in_own before (number_in all w)) (names_in_scope before) (number_in all w) else declaration_fault (counted limits) (names_in_scope before) (number_in all w)) ≡ None
+    elim (is_used_behind before) as (λ b. is_used_behind before ≡ b → (if b then use_fault (counted limits) (is_in_own before (number_in all w)) (names_in_scope before) (number_in all w) else declaration_fault (counted limits) (names_taken before) (number_in all w)) ≡ None
     → AreTold limits all (with_name names w) (before ++ at p (signs.Name (number_in all w)) ∷ [])) [
       | true ↦ λ e g. used_step limits all names w before p (is_in_own before (number_in all w)) found h e g
       | false ↦ λ e g. declared_step limits all names w before p lt found h e g
@@ -201,7 +201,7 @@ given_name : (limits : Limits) (given : List (List ℕ)) (w : List ℕ) (before 
 given_name limits given w before more p among none =
     let x : ℕ = number_in given w in
     let item : Item = at p (signs.Name (number_in given w)) in
-    elim (is_used_behind before) as (λ b. is_used_behind before ≡ b → (if b then use_fault (counted limits) (is_in_own before (number_in given w)) (names_in_scope before) (number_in given w) else declaration_fault (counted limits) (names_in_scope before) (number_in given w)) ≡ None → number_in given w < length given) [
+    elim (is_used_behind before) as (λ b. is_used_behind before ≡ b → (if b then use_fault (counted limits) (is_in_own before (number_in given w)) (names_in_scope before) (number_in given w) else declaration_fault (counted limits) (names_taken before) (number_in given w)) ≡ None → number_in given w < length given) [
       | true ↦ λ e g. among x (stays_declared x before (item ∷ more) (scope_declared x before (use_none limits (is_in_own before x) (names_in_scope before) x g)))
       | false ↦ λ e g. among x (subst (λ (ys : List Item). list_any (nat_eq x) (declared_by ys) ≡ true) (append_assoc before (item ∷ []) more) (stays_declared x (before ++ item ∷ []) more
           (ap (list_any (nat_eq x)) (declared_on before item e) ∙ list_any-append (nat_eq x) (declared_by before) (x ∷ []) ∙ or_right (list_any (nat_eq x) (declared_by before)) (list_any (nat_eq x) (x ∷ [])) (rw (eq-eqb x x refl) refl))))

@@ -1,5 +1,5 @@
 -- A name of the items that stay at a valid configuration has no fault, where it has none in the family.
-use Rattle.std.proofs.Common.{◌≡◌, ℕ, ◌+◌, nat_eq, nat_lt, Bool, true, false, not, ◌||◌, ◌&&◌, List, [], length, Option, Some, None, refl, sym, ap, subst, ◌∙◌, inl, inr, arith}
+use Rattle.std.proofs.Common.{◌≡◌, ℕ, ◌+◌, nat_eq, nat_lt, Bool, true, false, not, ◌||◌, ◌&&◌, List, [], length, Option, Some, None, refl, sym, ap, subst, ◌∙◌, inl, inr}
 use Rattle.std.specs.Prelude.{ℤ, ◌⊎◌, if◌then◌else◌}
 use Rattle.fam_outer.specs.declared.faults.FileCode.{FileCode}
 use Rattle.fam_outer.specs.declared.faults.FileCode.TheVariants.{Undeclared, Twice, FeatureInCode, TooManyVariables, TooManyConstants}
@@ -10,14 +10,15 @@ use Rattle.c_grammar.specs.declared.items.Sign.TheVariants as signs
 use Rattle.c_grammar.specs.Functions.{function_of}
 use Rattle.c_grammar.specs.Grammar.{is_group}
 use Rattle.c_grammar.specs.Kept.{kept}
-use Rattle.c_grammar.specs.Scopes.{names_in_scope, AreLevel}
+use Rattle.c_grammar.specs.Scopes.{names_in_scope, names_taken, AreLevel, AreBeside}
 use Rattle.c_grammar.specs.Locals.{is_in_own, is_open, AreOutside as StandOutside}
-use Rattle.family_names.specs.Names.{NameContext, truths_at, name_of, declared_by, in_scope_at, constants_of, values_of, is_among, is_kept, is_missed, is_met_again, is_feature, is_value, is_used_behind, value_fault, new_name_fault, IsWithFirst, IsEither, IsNameFault, IsUseFault, IsDeclarationFault}
+use Rattle.family_names.specs.Names.{NameContext, truths_at, name_of, declared_by, in_scope_at, taken_at, constants_of, values_of, is_among, is_kept, is_missed, is_met_again, is_feature, is_value, is_used_behind, value_fault, new_name_fault, IsWithFirst, IsEither, IsNameFault, IsUseFault, IsDeclarationFault}
 use Rattle.family_names.proofs.Features.{no_value}
 use Rattle.c_parser.specs.Names as alone
 use Rattle.c_parser.proofs.FewNames.{names_this, no_feature_declared}
 use Rattle.c_parser.proofs.KeptNames.{AreOutside, MainStays, stays_next, and_right, open_kept, used_kept, nowhere}
 use Rattle.c_parser.proofs.KeptScopes.{names_in_scope_kept}
+use Rattle.c_parser.proofs.KeptLocals.{names_taken_kept}
 
 silent_fault : (o : alone.Outside) (before : List Item) (s : Sign) → name_of s ≡ [] → function_of s ≡ [] → alone.name_fault o before s ≡ None
 silent_fault o before (signs.Name n) e f = absurd cc
@@ -94,34 +95,34 @@ no_limit o n v l c =
     ∙ ap (λ (b : Bool). if b then Some TooManyVariables else (if alone.is_seventeenth (o.variables + o.locals) o.constants n then Some TooManyConstants else None)) (none_counted o.variables o.locals n l)
     ∙ ap (λ (b : Bool). if b then Some TooManyConstants else None) (none_counted (o.variables + o.locals) o.constants n c)
 
--- where a declaration stays no other one is in scope
+-- where a declaration stays the name is not taken
 not_declared_before : (context : NameContext) (before : List Item) (n : ℕ) (values : List ℤ) → IsDeclarationFault context before n None → IsValid (plain context.model) values → is_kept (truths_at context values) before ≡ true
-    → is_among n (in_scope_at (truths_at context values) before) ≡ false
+    → is_among n (taken_at (truths_at context values) before) ≡ false
 not_declared_before context before n values h v k =
-    sym (ap (λ (b : Bool). b && is_among n (in_scope_at (truths_at context values) before)) k)
+    sym (ap (λ (b : Bool). b && is_among n (taken_at (truths_at context values) before)) k)
     ∙ nowhere context.model (is_met_again context before n) Twice (new_name_fault context before n) values h v
 
-declaration_fine : (context : NameContext) (o : alone.Outside) (values : List ℤ) (before : List Item) (n : ℕ) → AreOutside context o → StandOutside false None before → AreLevel [] 0 before → IsValid (plain context.model) values → MainStays (truths_at context values) [] before → is_kept (truths_at context values) before ≡ true
-    → IsDeclarationFault context before n None → alone.declaration_fault o (names_in_scope (kept (truths_at context values) before)) n ≡ None
-declaration_fine context o values before n a h l v m k u =
+declaration_fine : (context : NameContext) (o : alone.Outside) (values : List ℤ) (before : List Item) (n : ℕ) → AreOutside context o → StandOutside false None before → AreLevel [] 0 before → AreBeside false before → IsValid (plain context.model) values → MainStays (truths_at context values) [] before
+    → is_kept (truths_at context values) before ≡ true → IsDeclarationFault context before n None → alone.declaration_fault o (names_taken (kept (truths_at context values) before)) n ≡ None
+declaration_fine context o values before n a h l b v m k u =
     let truths = truths_at context values in
-    ap (λ (ns : List ℕ). alone.declaration_fault o ns n) (names_in_scope_kept truths before h m l)
-    ∙ ap (λ (b : Bool). if b then Some (Twice None) else (if alone.has_value o n then Some FeatureInCode else alone.limit_fault o n)) (not_declared_before context before n values u v k)
-    ∙ ap (λ (b : Bool). if b then Some FeatureInCode else alone.limit_fault o n) (a.values n ∙ no_value context n (no_feature_declared context before n u))
+    ap (λ (ns : List ℕ). alone.declaration_fault o ns n) (names_taken_kept truths before h m l b k)
+    ∙ ap (λ (t : Bool). if t then Some (Twice None) else (if alone.has_value o n then Some FeatureInCode else alone.limit_fault o n)) (not_declared_before context before n values u v k)
+    ∙ ap (λ (t : Bool). if t then Some FeatureInCode else alone.limit_fault o n) (a.values n ∙ no_value context n (no_feature_declared context before n u))
     ∙ no_limit o n a.variables a.locals a.constants
 
 -- ---- the next item
 
-name_next : (context : NameContext) (o : alone.Outside) (values : List ℤ) (before : List Item) (n : ℕ) → AreOutside context o → StandOutside false None before → AreLevel [] 0 before → IsValid (plain context.model) values → MainStays (truths_at context values) [] before → is_kept (truths_at context values) before ≡ true
-    → IsNameFault context before (signs.Name n) None → alone.name_fault o (kept (truths_at context values) before) (signs.Name n) ≡ None
-name_next context o values before n a h l v m k f =
+name_next : (context : NameContext) (o : alone.Outside) (values : List ℤ) (before : List Item) (n : ℕ) → AreOutside context o → StandOutside false None before → AreLevel [] 0 before → AreBeside false before → IsValid (plain context.model) values → MainStays (truths_at context values) [] before
+    → is_kept (truths_at context values) before ≡ true → IsNameFault context before (signs.Name n) None → alone.name_fault o (kept (truths_at context values) before) (signs.Name n) ≡ None
+name_next context o values before n a h l b v m k f =
     let truths = truths_at context values in
-    let scope = names_in_scope (kept truths before) in
-    ap (λ (b : Bool). if b then alone.use_fault o (is_in_own (kept truths before) n) scope n else alone.declaration_fault o scope n) (used_kept truths before h m k)
-    ∙ elim (is_used_behind before) as (λ b. IsEither b (IsUseFault context before n None) (IsDeclarationFault context before n None)
-    → (if b then alone.use_fault o (is_in_own (kept (truths_at context values) before) n) (names_in_scope (kept (truths_at context values) before)) n else alone.declaration_fault o (names_in_scope (kept (truths_at context values) before)) n) ≡ None) [
+    let before_it = kept truths before in
+    ap (λ (used : Bool). if used then alone.use_fault o (is_in_own (kept truths before) n) (names_in_scope before_it) n else alone.declaration_fault o (names_taken before_it) n) (used_kept truths before h m k)
+    ∙ elim (is_used_behind before) as (λ used. IsEither used (IsUseFault context before n None) (IsDeclarationFault context before n None)
+    → (if used then alone.use_fault o (is_in_own (kept (truths_at context values) before) n) (names_in_scope (kept (truths_at context values) before)) n else alone.declaration_fault o (names_taken (kept (truths_at context values) before)) n) ≡ None) [
       | true ↦ λ u. use_fine context o values before n a h l v m k u
-      | false ↦ λ u. declaration_fine context o values before n a h l v m k u
+      | false ↦ λ u. declaration_fine context o values before n a h l b v m k u
     ] f
 
 -- a function that stays has no fault
@@ -129,9 +130,9 @@ abbrev pub AreCallsFine : alone.Outside → List Bool → List Item → Item →
 AreCallsFine o truths before x = (k : ℕ) → x.sign ≡ signs.Function k → stays_next truths before x ≡ true → alone.name_fault o (kept truths before) x.sign ≡ None
 
 -- so the next item has none, if it stays
-pub next : (context : NameContext) (o : alone.Outside) (values : List ℤ) (before : List Item) (x : Item) → AreOutside context o → StandOutside false None before → AreLevel [] 0 before → IsValid (plain context.model) values → MainStays (truths_at context values) [] before
+pub next : (context : NameContext) (o : alone.Outside) (values : List ℤ) (before : List Item) (x : Item) → AreOutside context o → StandOutside false None before → AreLevel [] 0 before → AreBeside false before → IsValid (plain context.model) values → MainStays (truths_at context values) [] before
     → IsNameFault context before x.sign None → AreCallsFine o (truths_at context values) before x → stays_next (truths_at context values) before x ≡ true → alone.name_fault o (kept (truths_at context values) before) x.sign ≡ None
-next context o values before x a h l v m f c s =
+next context o values before x a h l b v m f c s =
     let truths = truths_at context values in
     elim (names_this x.sign) [
       | inl e ↦ elim (function_this x.sign) [
@@ -139,5 +140,5 @@ next context o values before x a h l v m f c s =
         | inr g ↦ c g.0 g.1 s
       ]
       | inr e ↦ ap (alone.name_fault o (kept truths before)) e.1
-          ∙ name_next context o values before e.0 a h l v m (and_right (not (is_group x.sign)) (is_kept truths before) s) (subst (λ (t : Sign). IsNameFault context before t None) e.1 f)
+          ∙ name_next context o values before e.0 a h l b v m (and_right (not (is_group x.sign)) (is_kept truths before) s) (subst (λ (t : Sign). IsNameFault context before t None) e.1 f)
     ]

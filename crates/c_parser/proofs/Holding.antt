@@ -1,25 +1,20 @@
 -- What is known of constants behind one item more, and the names that it changes.
-use Rattle.std.proofs.Common.{◌≡◌, ℕ, ◌+◌, ◌<◌, Bool, true, false, not, ◌&&◌, List, [], ◌∷◌, ◌++◌, length, take, drop, get_or, Option, Some, None, refl, sym, ap, subst, ◌∙◌, append-nil, drop-cons, add-one, inl, inr}
-use Rattle.std.specs.Prelude.{◌⊎◌, if◌then◌else◌, option_map}
+use Rattle.std.proofs.Common.{◌≡◌, ℕ, ◌+◌, ◌<◌, Bool, true, false, not, ◌&&◌, List, [], ◌∷◌, ◌++◌, length, take, drop, get_or, Option, Some, None, sym, ap, subst, ◌∙◌, drop-cons, add-one}
+use Rattle.std.specs.Prelude.{if◌then◌else◌, option_map}
 use Rattle.std.proofs.lemmas.List.{take_more}
 use Rattle.fam_outer.specs.declared.faults.FileCode.{FileCode}
 use Rattle.fam_outer.specs.declared.faults.Place.{Place}
-use Rattle.c_grammar.specs.declared.constants.NameKind.{NameKind}
 use Rattle.c_grammar.specs.declared.constants.NameKind.TheVariants as kinds
 use Rattle.c_grammar.specs.declared.items.Item.{Item}
-use Rattle.c_grammar.specs.declared.items.Sign.{Sign}
-use Rattle.c_grammar.specs.declared.items.Sign.TheVariants as signs
-use Rattle.c_grammar.specs.Constants.{is_name, is_constant, kind_after, constants_from, of_constants}
+use Rattle.c_grammar.specs.Constants.{is_constant, kind_after, of_constants}
 use Rattle.c_grammar.specs.Changes.{changed_at, IsTrack}
-use Rattle.c_grammar.specs.Functions.{has_sign}
-use Rattle.c_grammar.specs.Locals.{is_declaring, declares_behind}
 use Rattle.c_grammar.specs.Grammar.{at}
 use Rattle.c_grammar.specs.Scoped.{still}
 use Rattle.cpp_lines.specs.Faults.{or_later}
 use Rattle.c_parser.specs.declared.constants.Constants.{Constants}
 use Rattle.c_parser.specs.declared.names.Known.{Known}
 use Rattle.c_parser.specs.declared.names.Limits.{Limits}
-use Rattle.c_parser.specs.Names.{Outside, has_main, is_used_behind, name_of, declared_by, constants_in_scope, constant_fault, change_fault, name_fault_from, first_name_fault}
+use Rattle.c_parser.specs.Names.{Outside, is_used_behind, constants_in_scope, constant_fault, change_fault, name_fault_from, first_name_fault}
 use Rattle.c_parser.specs.Judging.{AreInScope, IsKnown, AreHeld, Judges, counted, declares_constant}
 
 pub held_more : (before : List Item) (x : Item) (new : Constants) → IsTrack (before ++ x ∷ []) new.track → ((p : Place) → AreInScope (of_constants (before ++ at p x.sign ∷ [])) new.names) → AreHeld (before ++ x ∷ []) new

@@ -20,7 +20,7 @@ use Rattle.family_names.proofs.Blocks.{other_in_scope, name_in_scope}
 use Rattle.family_names.proofs.Declared.{names_append, main_on, or_false, or_true}
 use Rattle.family_names.proofs.Holding.{from_more, from_main}
 use Rattle.c_parser.specs.Names.{is_main, has_main, is_used_behind, name_of, names_of}
-use Rattle.c_parser.specs.Judging.{AreInScope, AreInScopeBehind, declares_constant}
+use Rattle.c_parser.specs.Judging.{AreInScope, AreInScopeBehind, begins_block, declares_constant}
 
 -- ---- one item more
 
@@ -110,23 +110,27 @@ pub record Begins (main : Bool) (sign : Sign) : Type 0 where
   behind : (main || is_main sign) ≡ true
   left : (n : ℕ) → left_before sign main n ≡ pred n
 
-pub at_first_main : (sign : Sign) (main here : Bool) → sign ≡ signs.Main → here ≡ false → here ≡ main → Begins main sign
-at_first_main sign main here is e h = subst (λ (b : Bool). Begins b sign) (sym e ∙ h) (subst (Begins false) (sym is) (record { behind = refl; left = λ n. refl }))
+begins_at : (main : Bool) (sign : Sign) → begins_block main sign ≡ true → Begins main sign
+begins_at false signs.Main e = record { behind = refl; left = λ n. refl }
+begins_at true signs.Main e = absurd cc
+begins_at true signs.LeftBrace e = record { behind = refl; left = λ n. refl }
+begins_at false signs.LeftBrace e = absurd cc
+begins_at main _ e = absurd cc
 
-pub at_inner_brace : (sign : Sign) (main here : Bool) → sign ≡ signs.LeftBrace → here ≡ true → here ≡ main → Begins main sign
-at_inner_brace sign main here is e h = subst (λ (b : Bool). Begins b sign) (sym e ∙ h) (subst (Begins true) (sym is) (record { behind = refl; left = λ n. refl }))
+pub stays_at : (main : Bool) (sign : Sign) → begins_block main sign ≡ false → (sign ≡ signs.RightBrace → ⊥) → Stays main sign
+stays_at true signs.Main e r = record { behind = refl; left = λ n. refl }
+stays_at false signs.Main e r = absurd cc
+stays_at false signs.LeftBrace e r = record { behind = refl; left = λ n. refl }
+stays_at true signs.LeftBrace e r = absurd cc
+stays_at main signs.RightBrace e r = absurd (r refl)
+stays_at main _ e r = record { behind = or_false main; left = λ n. refl }
 
-pub at_later_main : (sign : Sign) (main here : Bool) → sign ≡ signs.Main → here ≡ true → here ≡ main → Stays main sign
-at_later_main sign main here is e h = subst (λ (b : Bool). Stays b sign) (sym e ∙ h) (subst (Stays true) (sym is) (record { behind = refl; left = λ n. refl }))
+-- as the code asks
+pub block_begins : (sign : Sign) (main here begins : Bool) → begins ≡ true → begins ≡ begins_block here sign → here ≡ main → Begins main sign
+block_begins sign main here begins e b h = begins_at main sign (ap (λ (m : Bool). begins_block m sign) (sym h) ∙ sym b ∙ e)
 
-pub at_outer_brace : (sign : Sign) (main here : Bool) → sign ≡ signs.LeftBrace → here ≡ false → here ≡ main → Stays main sign
-at_outer_brace sign main here is e h = subst (λ (b : Bool). Stays b sign) (sym e ∙ h) (subst (Stays false) (sym is) (record { behind = refl; left = λ n. refl }))
-
-pub elsewhere : (sign : Sign) (main : Bool) → (sign ≡ signs.Main → ⊥) → (sign ≡ signs.LeftBrace → ⊥) → (sign ≡ signs.RightBrace → ⊥) → Stays main sign
-elsewhere signs.Main main m l r = absurd (m refl)
-elsewhere signs.LeftBrace main m l r = absurd (l refl)
-elsewhere signs.RightBrace main m l r = absurd (r refl)
-elsewhere _ main m l r = record { behind = or_false main; left = λ n. refl }
+pub block_stays : (sign : Sign) (main here begins : Bool) → begins ≡ false → begins ≡ begins_block here sign → here ≡ main → (sign ≡ signs.RightBrace → ⊥) → Stays main sign
+block_stays sign main here begins e b h r = stays_at main sign (ap (λ (m : Bool). begins_block m sign) (sym h) ∙ sym b ∙ e) r
 
 pub same_in_scope : (before : List Item) (sign : Sign) (names : Scoped ℕ) → is_name sign ≡ false → Stays (has_main before) sign → AreInScope before names → AreInScopeBehind before sign names
 same_in_scope before sign names e s h p = record {

@@ -8,7 +8,7 @@ use Rattle.c_grammar.specs.declared.items.Sign.TheVariants as signs
 use Rattle.c_grammar.specs.declared.scoped.Scoped.{Scoped}
 use Rattle.c_grammar.specs.Grammar.{at}
 use Rattle.c_grammar.specs.Scoped.{still}
-use Rattle.c_grammar.specs.Scopes.{names_in_scope}
+use Rattle.c_grammar.specs.Scopes.{names_in_scope, barred, names_taken}
 use Rattle.c_grammar.specs.Constants.{is_name}
 use Rattle.c_grammar.specs.Locals.{declares_behind, declarations_from, of_declarations, is_in_own}
 use Rattle.c_grammar.proofs.Declaring.{declarations_more}
@@ -17,8 +17,9 @@ use Rattle.c_parser.specs.declared.names.Known.{Known}
 use Rattle.c_grammar.specs.Functions.{is_void, is_equals, function_of, stands_behind, is_as_asked}
 use Rattle.c_parser.specs.declared.prototypes.Prototypes.{Prototypes}
 use Rattle.c_parser.specs.Names.{Outside, is_main, has_main, is_used_behind, name_of, names_of, declared_by, functions_by, declaration_fault, use_fault, unlike_fault, prototype_fault, uncallable_fault, call_fault, name_fault}
-use Rattle.c_parser.specs.Judging.{AreInScope, AreInScopeBehind, Declares, DeclaresAlike, ArePrototypes, JudgesFunction, IsKnown, Judges}
-use Rattle.c_parser.proofs.InScope.{elsewhere, used_in_scope, same_in_scope}
+use Rattle.c_parser.specs.Judging.{AreInScope, AreInScopeBehind, AreLocals, AreLocalsBehind, DeclaresAlike, ArePrototypes, JudgesFunction, IsKnown, Judges}
+use Rattle.c_parser.proofs.InScope.{stays_at, used_in_scope, same_in_scope}
+use Rattle.c_parser.proofs.LocalNames.{locals_used, locals_other}
 use Rattle.c_parser.proofs.PrototypesBehind.{functions_behind, functions_still, functions_on}
 
 -- ---- what is declared
@@ -127,26 +128,43 @@ declared_valued before k old new main void fault e m v f b same d = record {
 some_fault : (found : FileCode) → ◌≡◌ {A = Option FileCode} (Some found) None → ⊥
 some_fault found e = cc
 
-pub not_declared : (o : Outside) (before : List Item) (x : ℕ) (scope : List ℕ) (names : Scoped ℕ) (fault : Option FileCode) (found : FileCode) → AreInScope before names → scope ≡ still 0 names → fault ≡ declaration_fault o scope x → fault ≡ Some found → Declares o before x names (Some found)
-not_declared o before x scope names fault found h items is some = record {
-  fault_is = sym some ∙ is ∙ ap (λ (ns : List ℕ). declaration_fault o ns x) (items ∙ h.still_are 0);
-  added = λ none. absurd (some_fault found none);
+-- what the code asks is what may not be declared
+fault_of_declaration : (o : Outside) (before : List Item) (x : ℕ) (known : Known) (scope others : List ℕ) (fault : Option FileCode) → is_used_behind before ≡ false → IsKnown before known → scope ≡ still 0 known.declared → others ≡ names_of (barred before)
+    → fault ≡ declaration_fault o (scope ++ others) x → fault ≡ name_fault o before (signs.Name x)
+fault_of_declaration o before x known scope others fault u k items bars is =
+    is
+    ∙ ap (λ (ns : List ℕ). declaration_fault o (ns ++ others) x) (items ∙ k.declared.still_are 0)
+    ∙ ap (λ (ns : List ℕ). declaration_fault o (names_in_scope before ++ ns) x) bars
+    ∙ ap (λ (b : Bool). if b then use_fault o (is_in_own before x) (names_in_scope before) x else declaration_fault o (names_taken before) x) (sym u)
+
+pub not_declared : (o : Outside) (before : List Item) (x : ℕ) (known : Known) (scope others : List ℕ) (fault : Option FileCode) (found : FileCode) → is_used_behind before ≡ false → IsKnown before known → scope ≡ still 0 known.declared → others ≡ names_of (barred before)
+    → fault ≡ declaration_fault o (scope ++ others) x → fault ≡ Some found → Judges o before (signs.Name x) known (Some found)
+not_declared o before x known scope others fault found u k items bars is some = record {
+  fault_is = sym some ∙ fault_of_declaration o before x known scope others fault u k items bars is;
+  known_is = λ none. absurd (some_fault found none);
 }
 
-pub now_declared : (o : Outside) (before : List Item) (x : ℕ) (scope : List ℕ) (old new : Scoped ℕ) (fault : Option FileCode) → AreInScope before old → scope ≡ still 0 old → fault ≡ declaration_fault o scope x → fault ≡ None → AreInScopeBehind before (signs.Name x) new → Declares o before x new None
-now_declared o before x scope old new fault h items is none added = record {
-  fault_is = sym none ∙ is ∙ ap (λ (ns : List ℕ). declaration_fault o ns x) (items ∙ h.still_are 0);
-  added = λ _. added;
+pub now_declared : (o : Outside) (before : List Item) (x : ℕ) (old new : Known) (scope others : List ℕ) (fault : Option FileCode) → is_used_behind before ≡ false → IsKnown before old → scope ≡ still 0 old.declared → others ≡ names_of (barred before)
+    → fault ≡ declaration_fault o (scope ++ others) x → fault ≡ None → new.in_main ≡ old.in_main → new.prototypes ≡ old.prototypes → AreLocalsBehind before (signs.Name x) new.locals → AreInScopeBehind before (signs.Name x) new.declared → Judges o before (signs.Name x) new None
+now_declared o before x old new scope others fault u k items bars is none same functions locals names = record {
+  fault_is = sym none ∙ fault_of_declaration o before x old scope others fault u k items bars is;
+  known_is = λ _ p. record {
+    declared = names p;
+    locals = locals p;
+    prototypes = subst (ArePrototypes (before ++ at p (signs.Name x) ∷ [])) (sym functions) (no_function before (at p (signs.Name x)) old.prototypes refl k.prototypes);
+    main = same ∙ k.main ∙ sym (main_on before (at p (signs.Name x)) ∙ or_false (has_main before));
+  };
 }
 
 -- ---- one item more
 
 pub at_main : (o : Outside) (before : List Item) (sign : Sign) (known : Known) (names : Scoped ℕ) → sign ≡ signs.Main → IsKnown before known → (is_name sign ≡ false → AreInScopeBehind before sign names)
-    → Judges o before sign (record { declared = names; prototypes = known.prototypes; in_main = true }) None
-at_main o before sign known names is k scope = subst (λ (s : Sign). (is_name s ≡ false → AreInScopeBehind before s names) → Judges o before s (record { declared = names; prototypes = known.prototypes; in_main = true }) None) (sym is) (λ f. record {
+    → Judges o before sign (record { declared = names; locals = known.locals; prototypes = known.prototypes; in_main = true }) None
+at_main o before sign known names is k scope = subst (λ (s : Sign). (is_name s ≡ false → AreInScopeBehind before s names) → Judges o before s (record { declared = names; locals = known.locals; prototypes = known.prototypes; in_main = true }) None) (sym is) (λ f. record {
   fault_is = refl;
   known_is = λ _ p. record {
     declared = f refl p;
+    locals = locals_other before (at p signs.Main) known.locals refl k.locals;
     prototypes = no_function before (at p signs.Main) known.prototypes refl k.prototypes;
     main = sym (main_on before (at p signs.Main) ∙ or_true (has_main before));
   };
@@ -159,31 +177,25 @@ at_use o before sign known x used own scope fault is e u w k items f = subst (λ
       f
       ∙ ap (λ (b : Bool). use_fault o b scope x) w
       ∙ ap (λ (ns : List ℕ). use_fault o (is_in_own before x) ns x) (items ∙ k.declared.still_are 0)
-      ∙ ap (λ (b : Bool). if b then use_fault o (is_in_own before x) (names_in_scope before) x else declaration_fault o (names_in_scope before) x) (sym (sym u ∙ e));
+      ∙ ap (λ (b : Bool). if b then use_fault o (is_in_own before x) (names_in_scope before) x else declaration_fault o (names_taken before) x) (sym (sym u ∙ e));
   known_is = λ _ p. record {
     declared = used_in_scope before p x known.declared (sym u ∙ e) k.declared;
+    locals = locals_used before p x known.locals (sym u ∙ e) k.locals;
     prototypes = no_function before (at p (signs.Name x)) known.prototypes refl k.prototypes;
     main = k.main ∙ sym (main_on before (at p (signs.Name x)) ∙ or_false (has_main before));
   };
 })
 
-pub at_declaration : (o : Outside) (before : List Item) (sign : Sign) (known new : Known) (x : ℕ) (used : Bool) (fault : Option FileCode) → sign ≡ signs.Name x → used ≡ false → used ≡ is_used_behind before → new.in_main ≡ known.in_main → new.prototypes ≡ known.prototypes → IsKnown before known → Declares o before x new.declared fault → Judges o before sign new fault
-at_declaration o before sign known new x used fault is e u same others k d = subst (λ (s : Sign). Judges o before s new fault) (sym is) (record {
-  fault_is =
-      d.fault_is
-      ∙ ap (λ (b : Bool). if b then use_fault o (is_in_own before x) (names_in_scope before) x else declaration_fault o (names_in_scope before) x) (sym (sym u ∙ e));
-  known_is = λ none p. record {
-    declared = d.added none p;
-    prototypes = subst (ArePrototypes (before ++ at p (signs.Name x) ∷ [])) (sym others) (no_function before (at p (signs.Name x)) known.prototypes refl k.prototypes);
-    main = same ∙ k.main ∙ sym (main_on before (at p (signs.Name x)) ∙ or_false (has_main before));
-  };
-})
+pub at_declaration : (o : Outside) (before : List Item) (sign : Sign) (new : Known) (x : ℕ) (fault : Option FileCode) → sign ≡ signs.Name x → Judges o before (signs.Name x) new fault → Judges o before sign new fault
+at_declaration o before sign new x fault is j = subst (λ (s : Sign). Judges o before s new fault) (sym is) j
 
-pub at_function : (o : Outside) (before : List Item) (sign : Sign) (known new : Known) (x : ℕ) (fault : Option FileCode) → sign ≡ signs.Function x → new.declared ≡ known.declared → new.in_main ≡ known.in_main → IsKnown before known → JudgesFunction before x new.prototypes fault → Judges o before sign new fault
-at_function o before sign known new x fault is names same k f = subst (λ (s : Sign). Judges o before s new fault) (sym is) (record {
+pub at_function : (o : Outside) (before : List Item) (sign : Sign) (known new : Known) (x : ℕ) (fault : Option FileCode) → sign ≡ signs.Function x → new.declared ≡ known.declared → new.locals ≡ known.locals → new.in_main ≡ known.in_main → IsKnown before known
+    → JudgesFunction before x new.prototypes fault → Judges o before sign new fault
+at_function o before sign known new x fault is names others same k f = subst (λ (s : Sign). Judges o before s new fault) (sym is) (record {
   fault_is = f.fault_is;
   known_is = λ none p. record {
-    declared = subst (AreInScope (before ++ at p (signs.Function x) ∷ [])) (sym names) (same_in_scope before (signs.Function x) known.declared refl (elsewhere (signs.Function x) (has_main before) (λ bad. cc) (λ bad. cc) (λ bad. cc)) k.declared p);
+    declared = subst (AreInScope (before ++ at p (signs.Function x) ∷ [])) (sym names) (same_in_scope before (signs.Function x) known.declared refl (stays_at (has_main before) (signs.Function x) refl (λ bad. cc)) k.declared p);
+    locals = subst (AreLocals (before ++ at p (signs.Function x) ∷ [])) (sym others) (locals_other before (at p (signs.Function x)) known.locals refl k.locals);
     prototypes = f.prototypes_are none p;
     main = same ∙ k.main ∙ sym (main_on before (at p (signs.Function x)) ∙ or_false (has_main before));
   };
@@ -202,11 +214,12 @@ other_sign (signs.Function x) n m f = absurd (f x refl)
 other_sign _ n m f = record { is_no_name = refl; functions_none = refl; is_no_main = refl; has_no_fault = λ o before. refl }
 
 pub at_other : (o : Outside) (before : List Item) (sign : Sign) (known : Known) (names : Scoped ℕ) → IsOther sign → IsKnown before known → (is_name sign ≡ false → AreInScopeBehind before sign names)
-    → Judges o before sign (record { declared = names; prototypes = known.prototypes; in_main = known.in_main }) None
+    → Judges o before sign (record { declared = names; locals = known.locals; prototypes = known.prototypes; in_main = known.in_main }) None
 at_other o before sign known names other k scope = record {
   fault_is = sym (other.has_no_fault o before);
   known_is = λ _ p. record {
     declared = scope other.is_no_name p;
+    locals = locals_other before (at p sign) known.locals other.is_no_name k.locals;
     prototypes = no_function before (at p sign) known.prototypes other.functions_none k.prototypes;
     main = k.main ∙ sym (main_on before (at p sign) ∙ ap (λ (b : Bool). has_main before || b) other.is_no_main ∙ or_false (has_main before));
   };

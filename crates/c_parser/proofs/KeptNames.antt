@@ -18,7 +18,7 @@ use Rattle.c_grammar.specs.Constants.{is_name}
 use Rattle.c_grammar.specs.Grammar.{is_group}
 use Rattle.c_grammar.specs.Kept.{directive_of, kept_from, kept}
 use Rattle.c_grammar.specs.Locals.{is_declaring, declares_behind, declarations_from, of_declarations, opened_by, open_from, open_behind, AreOutside as StandOutside, IsOutside}
-use Rattle.family_names.specs.Names.{NameContext, is_main, has_main, until_main, name_of, names_of, sections_behind, is_kept, is_feature_name, is_feature, feature_in, named_feature, is_integer, is_value, is_used_behind, IsWithFirst, IsEither, code_with}
+use Rattle.family_names.specs.Names.{NameContext, is_main, has_main, until_main, sections_behind, is_kept, is_feature_name, is_feature, feature_in, named_feature, is_integer, is_value, is_used_behind, IsWithFirst, IsEither, code_with}
 use Rattle.c_parser.specs.Names as alone
 use Rattle.c_parser.proofs.AmongNumbers.{neither}
 use Rattle.c_parser.proofs.KeptStates.{both_ways, AreLike, like_next, AreOthers, KnowNothing, known_behind, known_same, by_last, stands_kept, by_out, right, either}

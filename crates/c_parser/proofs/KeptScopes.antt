@@ -83,7 +83,7 @@ without_name : (truths : List Bool) (ss : List Section) (s : Sign) (xs : List It
 without_name truths ss (signs.Name n) xs e h = h
 without_name truths ss _ xs e h = absurd cc
 
-main_of_declarations : (truths : List Bool) (ss : List Section) (main declaring : Bool) (items : List Item) → MainStays truths ss items → MainStays truths ss (declarations_from main declaring items)
+pub main_of_declarations : (truths : List Bool) (ss : List Section) (main declaring : Bool) (items : List Item) → MainStays truths ss items → MainStays truths ss (declarations_from main declaring items)
 main_of_declarations truths ss main declaring [] h = tt
 main_of_declarations truths ss main declaring (x ∷ xs) h =
     let us = sections_after truths ss (directive_of x.sign) in

@@ -7,14 +7,15 @@ use Rattle.c_tree.specs.Tree.{Code}
 use Rattle.c_grammar.specs.declared.items.Item.{Item}
 use Rattle.c_grammar.specs.declared.items.Sign.{Sign}
 use Rattle.c_grammar.specs.declared.items.Sign.TheVariants as signs
-use Rattle.c_grammar.specs.Grammar.{at, Callable, of_input, of_function, Optional, absent, present, Typed, int, int32, signed, signed_int, int_signed, Qualifier, Qualified, unqualified, const_before, const_behind, LocalDeclarator, uninitialised, initialised, from_call, Writes, Locals, last_local, next_local, Begins, only_type, then_type, enumeration, Declarator, bare, positive, negative, counted, Ending, variables_end, constants_end, enumeration_end, comma_end, Defines, defined, negative_defined, enclosed, negative_enclosed, declared, Part, Outer, Declares, nothing, variables, prototype, void_prototype, definition, section, last_var, next_var, end_part, else_part, elif_part, Body, Main, main, File, Forms, file}
+use Rattle.c_grammar.specs.Grammar.{at, Callable, of_input, of_function, Optional, absent, present, Typed, int, int32, signed, signed_int, int_signed, Qualifier, Qualified, unqualified, const_before, const_behind, LocalDeclarator, uninitialised, initialised, from_call, Writes, Locals, last_local, next_local, Begins, only_type, then_type, enumeration, Declarator, bare, positive, negative, counted, Ending, variables_end, constants_end, enumeration_end, comma_end, Defines, defined, negative_defined, enclosed, negative_enclosed, declared, Part, Outer, Vars, Declares, nothing, variables, prototype, void_prototype, definition, section, last_var, next_var, end_part, else_part, elif_part, Body, Main, main, File, Forms, file}
+use Rattle.c_grammar.specs.Groups.{guarded_by}
 use Rattle.c_grammar.specs.Locals.{is_main, declares_behind, declarations_from, of_declarations, name_of, names_of, declared_by}
 use Rattle.c_grammar.specs.LocalsOf.{local_name, locals_in, locals_of_body, locals_of_main, declared_in}
 use Rattle.c_grammar.proofs.Declaring.{declarations_more, none_left_out}
 use Rattle.family_names.specs.AroundMain.{has_main}
 use Rattle.family_names.proofs.Declared.{names_append}
 use Rattle.c_parser.specs.Names.{targets}
-use Rattle.c_parser.proofs.Stretches.{is_calm, are_calm, calm_parts, expression_calm, function_calm, Stretch, calm, behind, before, both, declarators, groups, end_group, else_group, elif_group, stretch_of_body}
+use Rattle.c_parser.proofs.Stretches.{is_calm, are_calm, calm_parts, expression_calm, function_calm, Stretch, calm, behind, before, both, declarators, statics, groups, end_group, else_group, elif_group, stretch_of_body}
 
 pub targets-append : (ds es : List Declared) → targets (ds ++ es) ≡ targets ds ++ targets es
 targets-append [] es = refl
@@ -169,6 +170,24 @@ locals_first gs w (last_local p {ts} d) = ap (from_here true) (append_assoc ts (
 locals_first gs w (next_local p {ts} {us} d v) =
     ap (from_here true) (append_assoc ts (at p signs.Comma ∷ us) w) ∙ local_first (at p signs.Comma ∷ (us ++ w)) d ∙ ap (λ (ns : List ℕ). local_name d ∷ ns) (locals_first gs w v)
 
+-- so does one of a static variable, which starts at a number
+static_first : {ts : List Item} {x : ℕ} {n : ℤ} {kind : Qualifier} (w : List Item) → Declarator kind ts x n → from_here true (ts ++ w) ≡ x ∷ from_here false w
+static_first w (bare p x) = refl
+static_first w (positive p q r x n) = refl
+static_first w (negative p q r s x n) = refl
+static_first w (counted p x last lt) = refl
+
+ending_skipped : {us : List Item} {kind : Qualifier} (w : List Item) → Ending kind us → from_here false (us ++ w) ≡ from_here false w
+ending_skipped w (variables_end p) = refl
+ending_skipped w (constants_end p) = refl
+ending_skipped w (enumeration_end last p q) = refl
+ending_skipped w (comma_end last p q r) = refl
+
+statics_first : {us : List Item} {ds : List Declared} {kind : Qualifier} {inner : List Guard} (gs : List Guard) (w : List Item) → Declares (Vars kind inner) us ds → from_here true (us ++ w) ≡ targets (guarded_by gs ds) ++ from_here false w
+statics_first gs w (last_var inner {us} {vs} {x} d o) = ap (from_here true) (append_assoc us vs w) ∙ static_first (vs ++ w) d ∙ ap (λ (ns : List ℕ). x ∷ ns) (ending_skipped w o)
+statics_first gs w (next_var p inner {us} {vs} {x} d v) =
+    ap (from_here true) (append_assoc us (at p signs.Comma ∷ vs) w) ∙ static_first (at p signs.Comma ∷ (vs ++ w)) d ∙ ap (λ (ns : List ℕ). x ∷ ns) (statics_first gs w v)
+
 stretch_first : {later : Bool} {gs : List Guard} {ts : List Item} {ds : List Declared} (w : List Item) → Stretch later gs ts ds → from_here false (ts ++ w) ≡ targets ds ++ from_here false w
 stretch_first w (calm gs ts h) = calm_skipped ts w h
 stretch_first w (behind gs ts {us} h s) = ap (from_here false) (append_assoc ts us w) ∙ calm_skipped ts (us ++ w) h ∙ stretch_first w s
@@ -180,6 +199,10 @@ stretch_first w (declarators gs {ts} {us} {vs} {c} {kind} {es} q v s) =
     let re : (ts ++ (us ++ vs)) ++ w ≡ ts ++ (us ++ (vs ++ w)) = simp append_assoc in
     ap (from_here false) re ∙ qualified_skipped (us ++ (vs ++ w)) q
     ∙ parts_both (locals_in gs v) es (from_here true (us ++ (vs ++ w))) (from_here false (vs ++ w)) (from_here false w) (locals_first gs (vs ++ w) v) (stretch_first w s)
+stretch_first w (statics gs {ts} {us} {vs} {ds} {es} q v s) =
+    let re : (ts ++ (us ++ vs)) ++ w ≡ ts ++ (us ++ (vs ++ w)) = simp append_assoc in
+    ap (from_here false) re ∙ qualified_skipped (us ++ (vs ++ w)) q
+    ∙ parts_both (guarded_by gs ds) es (from_here true (us ++ (vs ++ w))) (from_here false (vs ++ w)) (from_here false w) (statics_first gs (vs ++ w) v) (stretch_first w s)
 stretch_first w (groups gs p n {ts} {us} {vs} {ds} {es} {fs} s t l) =
     let re : (ts ++ (us ++ vs)) ++ w ≡ ts ++ (us ++ (vs ++ w)) = simp append_assoc in
     let rest : from_here false (us ++ (vs ++ w)) ≡ targets (es ++ fs) ++ from_here false w =

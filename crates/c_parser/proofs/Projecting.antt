@@ -47,6 +47,7 @@ use Rattle.c_parser.proofs.AmongNumbers.{is_same}
 use Rattle.c_parser.proofs.FewNames.{few_names}
 use Rattle.c_parser.proofs.KeptItems.{fit_kept}
 use Rattle.c_grammar.proofs.Apart.{directives_apart}
+use Rattle.c_grammar.proofs.Beside.{directives_beside}
 use Rattle.c_grammar.proofs.Level.{directives_level}
 use Rattle.c_grammar.proofs.Outside.{directives_outside}
 use Rattle.c_parser.proofs.KeptFaults.{kept_fine}
@@ -227,7 +228,7 @@ read occur laws programs are_plain dialect model bytes text f values o v q inclu
     let context = context_of model o.known.atoms o.known.formulas l.names o.known.functions in
     let file = programs.is_file l.names l.items o.spelled o.accepted.spelled in
     let fine : first_name_fault (outside (given_at model (functions_of_bytes bytes) f values)) (kept (names.truths_at (context_of model o.known.atoms o.known.formulas o.accepted.listed.names o.known.functions) values) o.accepted.listed.items) ≡ None =
-    kept_fine context (outside (given_at model (functions_of_bytes bytes) f values)) l.items values (outside_are occur dialect model bytes f values o) (directives_apart l.items file.file file.forms) (directives_outside l.items file.file file.forms) (directives_level l.items file.file file.forms) o.accepted.names v
+    kept_fine context (outside (given_at model (functions_of_bytes bytes) f values)) l.items values (outside_are occur dialect model bytes f values o) (directives_apart l.items file.file file.forms) (directives_outside l.items file.file file.forms) (directives_level l.items file.file file.forms) (directives_beside l.items file.file file.forms) o.accepted.names v
     (main_stays (names.truths_at context values) file.forms) in
     record {
       spelled = projected_program truths o.spelled;

@@ -9,7 +9,8 @@ use Rattle.c_grammar.specs.declared.items.Item.{Item}
 use Rattle.c_grammar.specs.declared.items.Sign.{Sign}
 use Rattle.c_grammar.specs.declared.items.Sign.TheVariants as signs
 use Rattle.c_grammar.specs.Constants.{kind_behind}
-use Rattle.c_grammar.specs.Grammar.{at, Prefix, Positive, Negative, Inverse, prefix_sign, Expresses, number, name, group, prefix, loose, binary, Update, Sum, Difference, Product, Quotient, Remainder, update_sign, Count, Raise, Lower, count_sign, Callable, of_input, of_function, Changes, assignment, input_taken, compound_assignment, count_behind, count_before, Clause, no_clause, clause, Tests, no_test, test, Qualifier, Qualified, Shape, Listed, Stated, Chained, Locals, Writes, none, more, choice, local, last_local, next_local, ends, otherwise, elif, change, call, void_call, assert, skip, block, while, for, if_then, if_else, with_true, with_false, is_group, Returns, no_return, return, Gap, Gaps, GapRest, Empty, no_more, empty_section, empty_end, empty_else, empty_elif, Body, body}
+use Rattle.c_grammar.specs.Grammar.{at, Prefix, Positive, Negative, Inverse, prefix_sign, Expresses, number, name, group, prefix, loose, binary, Update, Sum, Difference, Product, Quotient, Remainder, update_sign, Count, Raise, Lower, count_sign, Callable, of_input, of_function, Changes, assignment, input_taken, compound_assignment, count_behind, count_before, Clause, no_clause, clause, Tests, no_test, test, Qualifier, Qualified, Shape, Listed, Stated, Chained, Locals, Writes, none, more, choice, local, static_local, last_local, next_local, ends, otherwise, elif, change, call, void_call, assert, skip, block, while, for, if_then, if_else, with_true, with_false, is_group, Returns, no_return, return, Declares, Vars, Gap, Gaps, GapRest, Empty, no_more, empty_section, empty_end, empty_else, empty_elif, Body, body}
+use Rattle.c_grammar.specs.Groups.{guarded_by}
 use Rattle.c_grammar.specs.Kept.{directive_of}
 use Rattle.c_grammar.specs.Locals.{is_declaring}
 use Rattle.c_grammar.proofs.Keeping.{for_head, for_is}
@@ -129,6 +130,7 @@ pub data Stretch : (later : Bool) → List Guard → List Item → List Declared
   before : (gs : List Guard) (us : List Item) {ts : List Item} {ds : List Declared} → Stretch false gs ts ds → are_calm us ≡ true → Stretch false gs (ts ++ us) ds
   both : (gs : List Guard) {ts us : List Item} {ds es : List Declared} → Stretch false gs ts ds → Stretch false gs us es → Stretch false gs (ts ++ us) (ds ++ es)
   declarators : (gs : List Guard) {ts us vs : List Item} {c : Code} {kind : Qualifier} {es : List Declared} → Qualified kind ts → (v : Writes (Locals kind) us c) → Stretch false gs vs es → Stretch false gs (ts ++ (us ++ vs)) (locals_in gs v ++ es)
+  statics : (gs : List Guard) {ts us vs : List Item} {ds es : List Declared} {kind : Qualifier} → Qualified kind ts → Declares (Vars kind []) us ds → Stretch false gs vs es → Stretch false gs (ts ++ (us ++ vs)) (guarded_by gs ds ++ es)
   groups : (gs : List Guard) (p : Place) (n : ℕ) {ts us vs : List Item} {ds es fs : List Declared} → Stretch false (with_true gs n) ts ds → Stretch true (with_false gs n) us es → Stretch false gs vs fs → Stretch false gs (at p (signs.GroupIf n) ∷ (ts ++ (us ++ vs))) (ds ++ (es ++ fs))
   end_group : (gs : List Guard) (p : Place) → Stretch true gs (at p signs.GroupEnd ∷ []) []
   else_group : (gs : List Guard) (p q : Place) {ts : List Item} {ds : List Declared} → Stretch false gs ts ds → Stretch true gs (at p signs.GroupElse ∷ (ts ++ at q signs.GroupEnd ∷ [])) ds
@@ -146,6 +148,7 @@ stretch_of gs none = calm gs [] refl
 stretch_of gs (more s l) = both gs (stretch_of gs s) (stretch_of gs l)
 stretch_of gs (choice p n s t l) = groups gs p n (stretch_of (with_true gs n) s) (stretch_of (with_false gs n) t) (stretch_of gs l)
 stretch_of gs (local q v l) = declarators gs q v (stretch_of gs l)
+stretch_of gs (static_local p q v l) = behind gs (at p signs.Static ∷ []) refl (statics gs q v (stretch_of gs l))
 stretch_of gs (last_local p d) = tt
 stretch_of gs (next_local p d v) = tt
 stretch_of gs (ends p) = end_group gs p

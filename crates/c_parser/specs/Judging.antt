@@ -11,12 +11,13 @@ use Rattle.c_grammar.specs.Changes.{IsTrack}
 use Rattle.c_grammar.specs.Constants.{is_constant, kind_after, of_constants}
 use Rattle.c_grammar.specs.Grammar.{at}
 use Rattle.c_grammar.specs.Scoped.{IsSound, is_inside, still}
-use Rattle.c_grammar.specs.Scopes.{names_in_scope, still_in_scope}
+use Rattle.c_grammar.specs.Scopes.{still_in_scope, of_locals}
 use Rattle.c_parser.specs.declared.constants.Constants.{Constants}
+use Rattle.c_parser.specs.declared.locals.Locals.{Locals}
 use Rattle.c_parser.specs.declared.prototypes.Prototypes.{Prototypes}
 use Rattle.c_parser.specs.declared.names.Known.{Known}
 use Rattle.c_parser.specs.declared.names.Limits.{Limits}
-use Rattle.c_parser.specs.Names.{Outside, has_main, names_of, is_used_behind, functions_by, declaration_fault, unlike_fault, prototype_fault, call_fault, name_fault}
+use Rattle.c_parser.specs.Names.{Outside, has_main, names_of, is_used_behind, functions_by, unlike_fault, prototype_fault, call_fault, name_fault}
 
 -- names that are to be counted, and none with a value from outside
 abbrev pub counted : Limits → Outside
@@ -32,10 +33,20 @@ pub record AreInScope (before : List Item) (names : Scoped ℕ) : Type 0 where
 abbrev pub AreInScopeBehind : List Item → Sign → Scoped ℕ → Type 0
 AreInScopeBehind before sign names = (p : Place) → AreInScope (before ++ at p sign ∷ []) names
 
--- the fault of a declaration behind these items; without one the name comes into scope
-pub record Declares (o : Outside) (before : List Item) (x : ℕ) (names : Scoped ℕ) (fault : Option FileCode) : Type 0 where
-  pub fault_is : fault ≡ declaration_fault o (names_in_scope before) x
-  pub added : fault ≡ None → AreInScopeBehind before (signs.Name x) names
+-- a block begins at the sign, in `main` or before it: at `main`, and at each brace in it
+abbrev pub begins_block : Bool → Sign → Bool
+begins_block main signs.Main = not main
+begins_block main signs.LeftBrace = main
+begins_block main _ = false
+
+-- the names that `main` declares among these items, whatever block they are in, and the static ones among them
+pub record AreLocals (before : List Item) (locals : Locals) : Type 0 where
+  pub all : locals.all.items ≡ names_of (of_locals false before)
+  pub statics : locals.statics.items ≡ names_of (of_locals true before)
+
+-- and behind a sign more
+abbrev pub AreLocalsBehind : List Item → Sign → Locals → Type 0
+AreLocalsBehind before sign locals = (p : Place) → AreLocals (before ++ at p sign ∷ []) locals
 
 -- the fault of a declaration of a function, behind declarations like it and others; without one it stands behind those like it
 pub record DeclaresAlike (old others : List ℕ) (k : ℕ) (new : List ℕ) (fault : Option FileCode) : Type 0 where
@@ -55,6 +66,7 @@ pub record JudgesFunction (before : List Item) (k : ℕ) (prototypes : Prototype
 -- what is known behind these items
 pub record IsKnown (before : List Item) (known : Known) : Type 0 where
   pub declared : AreInScope before known.declared
+  pub locals : AreLocals before known.locals
   pub prototypes : ArePrototypes before known.prototypes
   pub main : known.in_main ≡ has_main before
 

@@ -1,6 +1,7 @@
 -- The names that the items of a file without groups declare, and the first fault of a name (ISO/IEC 9899:2011, 6.5.1, 6.5.2.2 and 6.7).
 -- Before `main` each name is that of a declaration, and in it one behind a word of a type, `const` or a comma; the others are used. The scope
--- of a name that `main` declares begins behind its declarator and ends with its block (6.2.1); in it the name is not declared again.
+-- of a name that `main` declares begins behind its declarator and ends with its block (6.2.1); in it the name is not declared again, and a
+-- static one (6.2.4p3) is the only one of its name in `main`.
 -- Functions are declared before `main`, and called in it.
 use Rattle.std.specs.Prelude.{ℕ, ◌+◌, nat_eq, nat_lt, Bool, true, false, not, ◌&&◌, ◌||◌, List, [], ◌∷◌, ◌++◌, map, get_or, Option, Some, None, option_map, if◌then◌else◌}
 use Rattle.std.specs.List.{list_any}
@@ -15,7 +16,7 @@ use Rattle.c_grammar.specs.Constants.{of_constants}
 use Rattle.c_grammar.specs.Functions.{is_void, is_equals, function_of, stands_behind, of_functions}
 pub use Rattle.c_grammar.specs.Locals.{is_main, name_of, names_of, declared_by}
 use Rattle.c_grammar.specs.Locals.{declares_behind, is_in_own}
-use Rattle.c_grammar.specs.Scopes.{names_in_scope}
+use Rattle.c_grammar.specs.Scopes.{names_in_scope, names_taken}
 use Rattle.cpp_lines.specs.Faults.{or_later}
 use Rattle.c_tree.specs.declared.lists.Declared.{Declared}
 use Rattle.c_parser.specs.Items.{with_name}
@@ -76,10 +77,10 @@ limit_fault o x =
     if is_seventeenth 0 o.variables x || is_seventeenth o.variables o.locals x then Some TooManyVariables
     else (if is_seventeenth (o.variables + o.locals) o.constants x then Some TooManyConstants else None)
 
--- a name is declared a second time in a scope, has a value from outside, or is one too many, where these are in scope before it
+-- a name is declared that is taken, has a value from outside, or is one too many, where these are taken
 abbrev pub declaration_fault : Outside → List ℕ → ℕ → Option FileCode
-declaration_fault o scope x =
-    if list_any (nat_eq x) scope then Some (Twice None)
+declaration_fault o taken x =
+    if list_any (nat_eq x) taken then Some (Twice None)
     else (if has_value o x then Some FeatureInCode else limit_fault o x)
 
 -- a name is used that is not in scope, or in its own declarator, and has no value from outside
@@ -108,7 +109,7 @@ is_used_behind before = has_main before && not (declares_behind before)
 -- the fault of an item behind these
 abbrev pub name_fault : Outside → List Item → Sign → Option FileCode
 name_fault o before (signs.Name x) =
-    if is_used_behind before then use_fault o (is_in_own before x) (names_in_scope before) x else declaration_fault o (names_in_scope before) x
+    if is_used_behind before then use_fault o (is_in_own before x) (names_in_scope before) x else declaration_fault o (names_taken before) x
 name_fault o before (signs.Function k) = if has_main before then call_fault before k else prototype_fault before k
 name_fault o before _ = None
 

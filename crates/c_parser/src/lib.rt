@@ -6,6 +6,7 @@ pub mod family;
 mod family_items;
 mod functions;
 pub mod laws;
+mod locals;
 mod names;
 mod numbering;
 mod order;

@@ -1,17 +1,20 @@
 //! The first fault of a name.
 #![tactic(auto)]
 
-ghost use Rattle.std.specs.Prelude.{◌≡◌, ◌<◌, ◌^◌, nat_eq, false, List, IfOk, OnOk};
+ghost use Rattle.std.specs.Prelude.{◌≡◌, ◌<◌, ◌^◌, nat_eq, false, List, ◌++◌, IfOk, OnOk};
 ghost use Rattle.std.specs.List.{list_any};
 ghost use Rattle.c_parser.specs.Names as specs;
 ghost use Rattle.c_grammar.specs.declared.items.Item as items;
+ghost use Rattle.c_grammar.specs.declared.items.Sign.TheVariants as signs;
 ghost use Rattle.c_grammar.specs.Changes.{IsTrack};
 ghost use Rattle.c_grammar.specs.Constants.{is_name};
 ghost use Rattle.c_grammar.specs.Locals.{is_in_own};
 ghost use Rattle.c_parser.specs.declared.names.Limits as limits;
-ghost use Rattle.c_parser.specs.Judging.{AreInScope, AreInScopeBehind, Declares, IsKnown, Judges, counted};
+ghost use Rattle.c_parser.specs.Judging as judging;
+ghost use Rattle.c_parser.specs.Judging.{AreInScope, AreInScopeBehind, IsKnown, Judges, counted};
 
 use crate::constants::{Constants, change_fault};
+use crate::locals::Locals;
 use crate::prototypes::Prototypes;
 use c_grammar::{Item, Scoped, Sign, Track};
 use fam_outer::{FileCode, MOST_NAMES, NoMemory, Place};
@@ -29,11 +32,12 @@ pub(crate) fn contains(numbers: &[u32], number: u32) -> bool
     false
 }
 
-/// What is known behind some items: the names that they declare and whose block is open, the functions that they declare, and
-/// whether `main` is among them.
+/// What is known behind some items: the names that they declare and whose block is open, those that `main` declares in any block,
+/// the functions that they declare, and whether `main` is among them.
 #[derive(Drop)]
 pub(crate) struct Known {
     declared: Scoped<u32>,
+    locals: Locals,
     prototypes: Prototypes,
     pub(crate) in_main: bool,
 }
@@ -72,11 +76,11 @@ fn limit_fault(limits: Limits, number: u32) -> Option<FileCode>
     None
 }
 
-/// The fault of a declaration, where these names are in scope.
-fn declaration_fault(limits: Limits, scope: &[u32], number: u32) -> Option<FileCode>
-    ensures { result ≡ specs.declaration_fault (counted limits) scope.now number }
+/// The fault of a declaration, where these names are in scope, and these are barred besides.
+fn declaration_fault(limits: Limits, scope: &[u32], barred: &[u32], number: u32) -> Option<FileCode>
+    ensures { result ≡ specs.declaration_fault (counted limits) (scope.now ++ barred.now) number }
 {
-    if contains(scope, number) {
+    if contains(scope, number) || contains(barred, number) {
         return Some(FileCode::Twice(None));
     }
     limit_fault(limits, number)
@@ -113,24 +117,39 @@ fn is_in_own(track: &Track, number: u32) -> bool
     }
 }
 
-/// The fault of a declaration; without one the name comes into scope.
+/// The fault of a declaration behind items that this tells of; without one the name is known, and in scope.
 fn declare(
     limits: Limits,
-    declared: &mut Scoped<u32>,
+    known: &mut Known,
+    track: &Track,
     number: u32,
 ) -> Result<Option<FileCode>, NoMemory>
-    ensures { (before : List items.Item) → AreInScope before declared.old → specs.is_used_behind before ≡ false
-        → IfOk result (λ fault. Declares (counted limits) before number declared.new fault) }
+    ensures { (before : List items.Item) → IsKnown before known.old → IsTrack before track.now
+        → specs.is_used_behind before ≡ false
+        → IfOk result (λ fault. Judges (counted limits) before (signs.Name number) known.new fault) }
 {
-    if let Some(fault) = declaration_fault(limits, declared.items(), number) {
+    let is_static = track.is_static();
+    let barred = known.locals.barring(is_static);
+    if let Some(fault) = declaration_fault(limits, known.declared.items(), barred, number) {
         return Ok(Some(fault));
     }
-    declared.push(number)?;
+    known.locals.add(known.in_main, is_static, number)?;
+    known.declared.push(number)?;
     Ok(None)
 }
 
-/// Goes on behind a sign that is no name, in `main` or before it. A block begins at `main`, and at each brace in it; at its
-/// end its names go out of scope.
+/// Whether a block begins at a sign, in `main` or before it: the outermost one at `main`, and others at the braces in it.
+fn begins_block(in_main: bool, sign: Sign) -> bool
+    ensures { result ≡ judging.begins_block in_main sign }
+{
+    match sign {
+        Sign::Main => !in_main,
+        Sign::LeftBrace => in_main,
+        _ => false,
+    }
+}
+
+/// Goes on behind a sign that is no name, in `main` or before it; at the end of a block its names go out of scope.
 pub(crate) fn follow_blocks(
     names: &mut Scoped<u32>,
     in_main: bool,
@@ -140,13 +159,17 @@ pub(crate) fn follow_blocks(
         → is_name sign ≡ false → OnOk result (AreInScopeBehind before sign names.new) }
 {
     match sign {
-        Sign::Main => { if in_main { Ok(()) } else { names.enter() } }
-        Sign::LeftBrace => { if in_main { names.enter() } else { Ok(()) } }
         Sign::RightBrace => {
             names.leave();
             Ok(())
         }
-        _ => Ok(()),
+        _ => {
+            if begins_block(in_main, sign) {
+                names.enter()
+            } else {
+                Ok(())
+            }
+        }
     }
 }
 
@@ -171,7 +194,7 @@ fn judge(
                 let is_in_own = is_in_own(track, number);
                 Ok(use_fault(is_in_own, known.declared.items(), number))
             } else {
-                declare(limits, &mut known.declared, number)
+                declare(limits, known, track, number)
             }
         }
         Sign::Function(number) => known.prototypes.judge(known.in_main, track, number),
@@ -193,6 +216,7 @@ pub(crate) fn first_name_fault(
 {
     let mut known = Known {
         declared: Scoped::new(alloc),
+        locals: Locals::new(alloc),
         prototypes: Prototypes::new(alloc),
         in_main: false,
     };

@@ -21,7 +21,7 @@ use Rattle.c_grammar.specs.Grammar.{at}
 use Rattle.c_grammar.specs.Kept.{kept_from}
 use Rattle.c_grammar.specs.Locals.{is_main, is_declaring, declarations_from, opened_by, open_from, is_open, is_in_own, open_behind, name_of, names_of}
 use Rattle.c_grammar.specs.Scopes.{is_open_behind, scoped_from}
-use Rattle.family_names.specs.Names.{NameContext, IsWithFirst, IsEither, IsUseFault, IsDeclarationFault, IsNameFault, IsChangeOf, IsChangeFault, IsChangeOr, changed_place, IsThisOr, IsFaultFrom, IsFirstNameFault, is_feature, is_value, is_missed, is_met_again, is_met_constant, is_kept, is_among, truths_at, in_scope_at, constants_at, constants_of, values_of, value_fault, full_fault, new_name_fault, code_with}
+use Rattle.family_names.specs.Names.{NameContext, IsWithFirst, IsEither, IsUseFault, IsDeclarationFault, IsNameFault, IsChangeOf, IsChangeFault, IsChangeOr, changed_place, IsThisOr, IsFaultFrom, IsFirstNameFault, is_feature, is_value, is_missed, is_met_again, is_met_constant, is_kept, is_among, truths_at, taken_at, constants_at, constants_of, values_of, value_fault, full_fault, new_name_fault, code_with}
 use Rattle.family_names.proofs.Declared.{among_kept}
 use Rattle.family_names.proofs.Features.{no_value}
 use Rattle.family_generator.proofs.Signs.{laid, header_signs}
@@ -254,10 +254,10 @@ behind_header context f x y mid (i ∷ is) fault free all last own h =
 
 -- ---- the header
 
-declared_new : (context : NameContext) (before : List Item) (x : ℕ) (fault : Option FileCode) → IsDeclarationFault context before x fault → ((values : List ℤ) → is_among x (in_scope_at (truths_at context values) before) ≡ false) → fault ≡ new_name_fault context before x
+declared_new : (context : NameContext) (before : List Item) (x : ℕ) (fault : Option FileCode) → IsDeclarationFault context before x fault → ((values : List ℤ) → is_among x (taken_at (truths_at context values) before) ≡ false) → fault ≡ new_name_fault context before x
 declared_new context before x fault h none =
     other_one context.model (is_met_again context before x) Twice (new_name_fault context before x) fault
-    (λ values e. none_holds (is_kept (truths_at context values) before) (is_among x (in_scope_at (truths_at context values) before)) (none values) e) h
+    (λ values e. none_holds (is_kept (truths_at context values) before) (is_among x (taken_at (truths_at context values) before)) (none values) e) h
 
 next_item : (context : NameContext) (before : List Item) (i : Item) (xs : List Item) (fault : Option (FileCode × Place)) → ((code : Option FileCode) → IsNameFault context before i.sign code → code ≡ None) → ((code : Option FileCode) → IsChangeFault context before i code → code ≡ None)
     → IsFaultFrom context before (i ∷ xs) fault → IsFaultFrom context (before ++ i ∷ []) xs fault

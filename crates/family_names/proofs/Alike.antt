@@ -24,7 +24,7 @@ use Rattle.c_grammar.specs.Locals.{is_in_own}
 use Rattle.atom_solver.specs.Solutions.{IsBefore, IsFirst, Finds}
 use Rattle.family_names.specs.Functions.{functions_at, callable_by, callable_at}
 use Rattle.family_names.specs.Laws.{AreAlike, NamesAreJudgedOnce}
-use Rattle.family_names.specs.Names.{NameContext, truths_at, has_main, names_of, declared_by, in_scope_at, names_of_class, class_behind, constants_of, behind_main, values_of, test_count, is_among, each_once, is_kept, is_missed, is_met_again, is_met_unlike, is_uncallable, is_met_constant, constants_at, is_feature_name, is_feature, feature_in, named_feature, feature_of, is_integer, is_value, width_or_none, value_fault, full_fault, new_name_fault, function_fault, code_with, IsWithFirst, IsEither, is_used_behind, IsUseFault, IsDeclarationFault, IsPrototypeFault, IsCallFault, IsNameFault, IsChangeOf, IsChangeFault, changed_place, IsThisOr, IsChangeOr, IsFaultFrom}
+use Rattle.family_names.specs.Names.{NameContext, truths_at, has_main, names_of, declared_by, in_scope_at, taken_at, names_of_class, class_behind, constants_of, behind_main, values_of, test_count, is_among, each_once, is_kept, is_missed, is_met_again, is_met_unlike, is_uncallable, is_met_constant, constants_at, is_feature_name, is_feature, feature_in, named_feature, feature_of, is_integer, is_value, width_or_none, value_fault, full_fault, new_name_fault, function_fault, code_with, IsWithFirst, IsEither, is_used_behind, IsUseFault, IsDeclarationFault, IsPrototypeFault, IsCallFault, IsNameFault, IsChangeOf, IsChangeFault, changed_place, IsThisOr, IsChangeOr, IsFaultFrom}
 
 -- ---- the first configuration
 
@@ -123,7 +123,7 @@ same_missed : (a b : NameContext) → AreAlike a b → (before : List Item) (x :
 same_missed a b s before x values = ap (λ (ts : List Bool). is_kept ts before && (is_in_own before x || not (is_among x (in_scope_at ts before)))) (s.truths values)
 
 same_met : (a b : NameContext) → AreAlike a b → (before : List Item) (x : ℕ) (values : List ℤ) → is_met_again a before x values ≡ is_met_again b before x values
-same_met a b s before x values = ap (λ (ts : List Bool). is_kept ts before && is_among x (in_scope_at ts before)) (s.truths values)
+same_met a b s before x values = ap (λ (ts : List Bool). is_kept ts before && is_among x (taken_at ts before)) (s.truths values)
 
 same_unlike : (a b : NameContext) → AreAlike a b → (before : List Item) (k : ℕ) (values : List ℤ) → is_met_unlike a before k values ≡ is_met_unlike b before k values
 same_unlike a b s before k values = ap (λ (ts : List Bool). is_kept ts before && is_among k (functions_at ts (not (stands_behind is_void before)) before)) (s.truths values)

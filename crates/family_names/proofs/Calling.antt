@@ -25,7 +25,7 @@ use Rattle.family_names.proofs.Holding.{none_declared, and_none}
 
 -- ---- what declarations tell
 
-tells_same : (ds : List Declaration) (xs ys : List ℕ) (xs_at ys_at : List Bool → List ℕ) → ys ≡ xs → ((truths : List Bool) → ys_at truths ≡ xs_at truths) → Tells ds xs xs_at → Tells ds ys ys_at
+pub tells_same : (ds : List Declaration) (xs ys : List ℕ) (xs_at ys_at : List Bool → List ℕ) → ys ≡ xs → ((truths : List Bool) → ys_at truths ≡ xs_at truths) → Tells ds xs xs_at → Tells ds ys ys_at
 tells_same ds xs ys xs_at ys_at e f t = record {
   any = λ x. t.any x ∙ ap (is_among x) (sym e);
   kept_is = λ truths x. t.kept_is truths x ∙ ap (is_among x) (sym (f truths));
@@ -41,7 +41,7 @@ tells_more ds d xs ys xs_at ys_at e f t = record {
       ∙ ap (λ (b : Bool). b || (nat_eq y d.name && are_kept truths d.groups)) (t.kept_is truths y) ∙ sym (f truths y);
 }
 
-tells_none : (ds : List Declaration) → ds ≡ [] → Tells ds [] (λ truths. [])
+pub tells_none : (ds : List Declaration) → ds ≡ [] → Tells ds [] (λ truths. [])
 tells_none ds e = record {
   any = λ x. ap (λ (es : List Declaration). has_one es x) e;
   kept_is = λ truths x. ap (λ (es : List Declaration). is_declared truths es x) e;

@@ -13,14 +13,15 @@ use Rattle.c_grammar.specs.Constants.{is_name}
 use Rattle.c_grammar.specs.Grammar.{at, is_group}
 use Rattle.c_grammar.specs.Kept.{directive_of, kept, kept_from}
 use Rattle.c_grammar.specs.Locals.{is_declaring, declarations_from, of_declarations}
-use Rattle.c_grammar.specs.Scopes.{is_open_behind, scoped_from, still_in_scope}
+use Rattle.c_grammar.specs.Scopes.{is_open_behind, scoped_from, still_in_scope, is_static_behind, is_local, of_locals}
 use Rattle.c_grammar.proofs.Declaring.{declarations_more}
 use Rattle.family_names.specs.declared.declarations.Declaration.{Declaration}
 use Rattle.family_names.specs.declared.groups.Group.{Group}
-use Rattle.family_names.specs.Blocks.{still_at, is_shown, left_before, with_shown}
+use Rattle.family_names.specs.Blocks.{still_at, locals_by, locals_at, is_shown, left_before, with_shown}
 use Rattle.family_names.specs.Declarations.{is_kept as declaration_kept, is_declared}
 use Rattle.family_names.specs.Groups.{sections}
 use Rattle.family_names.specs.Names.{is_main, has_main, name_of, names_of, declared_by, is_among, with_number, each_once, sections_behind, is_kept, is_used_behind}
+use Rattle.family_names.proofs.Barred.{name_among_locals, used_among_locals, other_among_locals, locals_sections}
 use Rattle.family_names.proofs.Blocks.{other_in_scope, name_in_scope}
 
 -- ---- truths
@@ -119,30 +120,48 @@ scoped_sections truths ss n main (y ∷ ys) =
       | false ↦ λ e. scoped_sections truths (sections_after truths ss (directive_of y.sign)) n m ys
     ] refl
 
--- ---- what is declared behind some items and one more, and what is in scope
+-- and for the names that `main` declares
+of_locals_sections : (truths : List Bool) (only : Bool) (before : List Item) → sections_behind truths [] (of_locals only before) ≡ sections_behind truths [] before
+of_locals_sections truths only before = locals_sections truths [] only false false (of_declarations before) ∙ of_sections truths before
+
+-- ---- what is declared behind some items and one more, what is in scope, and what `main` declares
 
 pub record AreMore (before : List Item) (x : Item) : Type 0 where
   pub any : declared_by (before ++ x ∷ []) ≡ declared_by before ++ name_of x.sign
   pub kept : (n : ℕ) (truths : List Bool) → still_at n truths (before ++ x ∷ []) ≡ still_at n truths before ++ (if is_shown n (has_main before) then names_of (kept_from truths (sections_behind truths [] before) (x ∷ [])) else [])
+  pub locals : (only : Bool) → locals_by only (before ++ x ∷ []) ≡ locals_by only before ++ (if is_local only (has_main before) (is_static_behind before) then name_of x.sign else [])
+  pub kept_locals : (only : Bool) (truths : List Bool) → locals_at truths only (before ++ x ∷ [])
+      ≡ locals_at truths only before ++ (if is_local only (has_main before) (is_static_behind before) then names_of (kept_from truths (sections_behind truths [] before) (x ∷ [])) else [])
 
 pub record AreStill (before : List Item) (x : Item) : Type 0 where
   pub any : declared_by (before ++ x ∷ []) ≡ declared_by before
   pub kept : (n : ℕ) (truths : List Bool) → still_at n truths (before ++ x ∷ []) ≡ still_at (left_before x.sign (has_main before) n) truths before
+  pub locals : (only : Bool) → locals_by only (before ++ x ∷ []) ≡ locals_by only before
+  pub kept_locals : (only : Bool) (truths : List Bool) → locals_at truths only (before ++ x ∷ []) ≡ locals_at truths only before
 
 -- an item that is no name that is used
 more_declared : (before : List Item) (x : Item) → (is_used_behind before && is_name x.sign) ≡ false → declared_by (before ++ x ∷ []) ≡ declared_by before ++ name_of x.sign
 more_declared before x h =
     ap names_of (of_more before x ∙ ap (λ (b : Bool). of_declarations before ++ (if b then [] else x ∷ [])) h) ∙ names_append (of_declarations before) (x ∷ []) ∙ ap (λ (ns : List ℕ). names_of (of_declarations before) ++ ns) (append-nil (name_of x.sign))
 
--- the names among these and others behind them that are kept where so many more blocks are left
+-- the names among some of the items and others behind them that are kept
+kept_behind : (truths : List Bool) (some before xs : List Item) → sections_behind truths [] some ≡ sections_behind truths [] before
+    → names_of (kept truths (some ++ xs)) ≡ names_of (kept truths some) ++ names_of (kept_from truths (sections_behind truths [] before) xs)
+kept_behind truths some before xs same =
+    ap names_of (kept_append truths [] some xs) ∙ names_append (kept truths some) (kept_from truths (sections_behind truths [] some) xs)
+    ∙ ap (λ (ss : List Section). names_of (kept truths some) ++ names_of (kept_from truths ss xs)) same
+
+-- so it is where so many more blocks are left
 kept_more : (truths : List Bool) (before xs : List Item) (n : ℕ) → names_of (kept truths (still_in_scope n before ++ xs)) ≡ still_at n truths before ++ names_of (kept_from truths (sections_behind truths [] before) xs)
-kept_more truths before xs n =
-    ap names_of (kept_append truths [] (still_in_scope n before) xs) ∙ names_append (kept truths (still_in_scope n before)) (kept_from truths (sections_behind truths [] (still_in_scope n before)) xs)
-    ∙ ap (λ (ss : List Section). still_at n truths before ++ names_of (kept_from truths ss xs)) (scoped_sections truths [] n false (of_declarations before) ∙ of_sections truths before)
+kept_more truths before xs n = kept_behind truths (still_in_scope n before) before xs (scoped_sections truths [] n false (of_declarations before) ∙ of_sections truths before)
 
 kept_if : (b : Bool) (truths : List Bool) (ss : List Section) (xs : List Item) → names_of (kept_from truths ss (if b then xs else [])) ≡ (if b then names_of (kept_from truths ss xs) else [])
 kept_if true truths ss xs = refl
 kept_if false truths ss xs = refl
+
+names_if : (b : Bool) (x : Item) → names_of (if b then x ∷ [] else []) ≡ (if b then name_of x.sign else [])
+names_if true x = append-nil (name_of x.sign)
+names_if false x = refl
 
 -- a name that is declared
 pub more_named : (before : List Item) (p : Place) (n : ℕ) → is_used_behind before ≡ false → AreMore before (at p (signs.Name n))
@@ -154,6 +173,14 @@ more_named before p x h =
           let b : Bool = is_shown n (has_main before) in
           ap (λ (ys : List Item). names_of (kept truths ys)) (name_in_scope before p x n h) ∙ kept_more truths before (if b then one else []) n
           ∙ ap (λ (ns : List ℕ). still_at n truths before ++ ns) (kept_if b truths (sections_behind truths [] before) one);
+      locals = λ only.
+          let b : Bool = is_local only (has_main before) (is_static_behind before) in
+          ap names_of (name_among_locals only before p x h) ∙ names_append (of_locals only before) (if b then one else [])
+          ∙ ap (λ (ns : List ℕ). locals_by only before ++ ns) (names_if b (at p (signs.Name x)));
+      kept_locals = λ only truths.
+          let b : Bool = is_local only (has_main before) (is_static_behind before) in
+          ap (λ (ys : List Item). names_of (kept truths ys)) (name_among_locals only before p x h) ∙ kept_behind truths (of_locals only before) before (if b then one else []) (of_locals_sections truths only before)
+          ∙ ap (λ (ns : List ℕ). locals_at truths only before ++ ns) (kept_if b truths (sections_behind truths [] before) one);
     }
 
 -- a name that is used
@@ -164,6 +191,8 @@ still_used before p n h =
     record {
       any = ap names_of u;
       kept = λ left truths. ap (λ (ys : List Item). names_of (kept truths (scoped_from left false ys))) u;
+      locals = λ only. ap names_of (used_among_locals only before p n h);
+      kept_locals = λ only truths. ap (λ (ys : List Item). names_of (kept truths ys)) (used_among_locals only before p n h);
     }
 
 pub no_names : (truths : List Bool) (ss : List Section) (x : Item) → name_of x.sign ≡ [] → names_of (kept_from truths ss (x ∷ [])) ≡ []
@@ -183,6 +212,12 @@ still_other before x e =
           let left : ℕ = left_before x.sign (has_main before) n in
           ap (λ (ys : List Item). names_of (kept truths ys)) (other_in_scope before x n other) ∙ kept_more truths before (x ∷ []) left
           ∙ ap (λ (ns : List ℕ). still_at left truths before ++ ns) (no_names truths (sections_behind truths [] before) x e) ∙ append-nil (still_at left truths before);
+      locals = λ only.
+          ap names_of (other_among_locals only before x other) ∙ names_append (of_locals only before) (x ∷ [])
+          ∙ ap (λ (ns : List ℕ). locals_by only before ++ (ns ++ [])) e ∙ append-nil (locals_by only before);
+      kept_locals = λ only truths.
+          ap (λ (ys : List Item). names_of (kept truths ys)) (other_among_locals only before x other) ∙ kept_behind truths (of_locals only before) before (x ∷ []) (of_locals_sections truths only before)
+          ∙ ap (λ (ns : List ℕ). locals_at truths only before ++ ns) (no_names truths (sections_behind truths [] before) x e) ∙ append-nil (locals_at truths only before);
     }
 
 -- ---- names, each once
@@ -223,32 +258,17 @@ among_kept x truths ss (y ∷ ys) h =
       | false ↦ λ g. or_right (is_among x (name_of y.sign)) (is_among x (names_of ys)) (among_kept x truths (sections_after truths ss (directive_of y.sign)) ys g)
     ] h
 
--- and so are the names that are in scope
-among_scoped : (x n : ℕ) (main : Bool) (w : List Item) → is_among x (names_of (scoped_from n main w)) ≡ true → is_among x (names_of w) ≡ true
-among_scoped x n main [] h = h
-among_scoped x n main (y ∷ ys) h =
-    let m = main || is_main y.sign in
-    list_any-append (nat_eq x) (name_of y.sign) (names_of ys) ∙
-    elim (main && is_name y.sign && not (is_open_behind n ys)) as (λ t. is_among x (names_of (if t then scoped_from n (main || is_main y.sign) ys else y ∷ scoped_from n (main || is_main y.sign) ys)) ≡ true → (is_among x (name_of y.sign) || is_among x (names_of ys)) ≡ true) [
-      | true ↦ λ g. or_right (is_among x (name_of y.sign)) (is_among x (names_of ys)) (among_scoped x n m ys g)
-      | false ↦ λ g. or_more (is_among x (name_of y.sign)) (is_among x (names_of (scoped_from n m ys))) (is_among x (names_of ys)) (among_scoped x n m ys)
-          (sym (list_any-append (nat_eq x) (name_of y.sign) (names_of (scoped_from n m ys))) ∙ g)
-    ] h
-
-pub still_declared : (x n : ℕ) (truths : List Bool) (before : List Item) → is_among x (still_at n truths before) ≡ true → is_among x (declared_by before) ≡ true
-still_declared x n truths before h = among_scoped x n false (of_declarations before) (among_kept x truths [] (still_in_scope n before) h)
-
 -- ---- declarations as they are kept
 
 -- a declaration more
-kept_name : (truths : List Bool) (before : List Item) (p : Place) (x y : ℕ) → is_among y (names_of (kept_from truths (sections_behind truths [] before) (at p (signs.Name x) ∷ []))) ≡ (nat_eq y x && is_kept truths before)
+pub kept_name : (truths : List Bool) (before : List Item) (p : Place) (x y : ℕ) → is_among y (names_of (kept_from truths (sections_behind truths [] before) (at p (signs.Name x) ∷ []))) ≡ (nat_eq y x && is_kept truths before)
 kept_name truths before p x y = elim (all_kept (sections_behind truths [] before)) as (λ t. is_among y (names_of (if t then at p (signs.Name x) ∷ [] else [])) ≡ (nat_eq y x && t)) [
   | true ↦ or_false (nat_eq y x) ∙ sym (and_true (nat_eq y x))
   | false ↦ sym (and_false (nat_eq y x))
 ]
 
--- where it is shown, the names in scope and those of a list are more by it
-shown_more : (shown : Bool) (truths : List Bool) (y : ℕ) (ds : List Declaration) (d : Declaration) (xs one : List ℕ) → is_declared truths ds y ≡ is_among y xs → declaration_kept truths y d ≡ is_among y one
+-- where it is shown, the names and those of a list are more by it
+pub shown_more : (shown : Bool) (truths : List Bool) (y : ℕ) (ds : List Declaration) (d : Declaration) (xs one : List ℕ) → is_declared truths ds y ≡ is_among y xs → declaration_kept truths y d ≡ is_among y one
     → is_declared truths (with_shown shown ds d) y ≡ is_among y (xs ++ (if shown then one else []))
 shown_more true truths y ds d xs one known same =
     list_any-append (λ (c : Declaration). declaration_kept truths y c) ds (d ∷ [])

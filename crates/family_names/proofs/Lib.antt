@@ -1,6 +1,7 @@
 pub mod Alike
 pub mod Answering
 pub mod Asked
+pub mod Barred
 pub mod Begun
 pub mod Blocks
 pub mod Calling
@@ -15,3 +16,4 @@ pub mod Walking
 pub mod Features
 pub mod FunctionsBehind
 pub mod Holding
+pub mod LocalsBehind

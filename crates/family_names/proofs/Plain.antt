@@ -1,5 +1,5 @@
 -- Without groups each item is kept.
-use Rattle.std.proofs.Common.{◌≡◌, ℕ, ℤ, Bool, true, false, not, ◌&&◌, List, [], ◌∷◌, length, Option, Some, None, refl, sym, ap, ◌∙◌}
+use Rattle.std.proofs.Common.{◌≡◌, ℕ, ℤ, Bool, true, false, not, ◌&&◌, List, [], ◌∷◌, ◌++◌, length, Option, Some, None, refl, sym, ap, ◌∙◌}
 use Rattle.std.specs.Prelude.{◌||◌, if◌then◌else◌}
 use Rattle.fam_outer.specs.declared.faults.FileCode.{FileCode}
 use Rattle.fam_outer.specs.declared.faults.FileCode.TheVariants.{Undeclared, Twice, FeatureInCode}
@@ -14,11 +14,12 @@ use Rattle.c_grammar.specs.Constants.{is_name}
 use Rattle.c_grammar.specs.Grammar.{is_group}
 use Rattle.c_grammar.specs.Kept.{directive_of, kept_from}
 use Rattle.c_grammar.specs.Locals.{is_declaring, declarations_from, of_declarations, is_in_own}
-use Rattle.c_grammar.specs.Scopes.{is_open_behind, scoped_from, in_scope, names_in_scope}
+use Rattle.c_grammar.specs.Scopes.{is_open_behind, scoped_from, in_scope, names_in_scope, is_static_behind, barred, names_taken}
 use Rattle.atom_solver.specs.Solutions.{Finds}
-use Rattle.family_names.specs.Names.{NameContext, truths_at, names_of, is_main, declared_by, in_scope_at, constants_of, values_of, is_among, sections_behind, is_kept, is_missed, is_met_again, is_feature, is_value, value_fault, new_name_fault, IsWithFirst, IsEither, is_used_behind, IsUseFault, IsDeclarationFault, code_with}
+use Rattle.family_names.specs.Names.{NameContext, truths_at, names_of, is_main, declared_by, in_scope_at, taken_at, constants_of, values_of, is_among, sections_behind, is_kept, is_missed, is_met_again, is_feature, is_value, value_fault, new_name_fault, IsWithFirst, IsEither, is_used_behind, IsUseFault, IsDeclarationFault, code_with}
 use Rattle.family_names.specs.Laws.{has_groups, IsPlainUseFault, PlainNames}
 use Rattle.family_names.proofs.Answering.{found_same}
+use Rattle.family_names.proofs.Barred.{locals_plain}
 
 pub no_directive : (s : Sign) → is_group s ≡ false → directive_of s ≡ None
 no_directive (signs.GroupIf n) h = absurd cc
@@ -80,6 +81,12 @@ kept_plain truths before h = ap all_kept (none_open truths before h)
 scope_plain : (truths : List Bool) (before : List Item) → has_groups before ≡ false → in_scope_at truths before ≡ names_in_scope before
 scope_plain truths before h = ap names_of (all_stay truths (in_scope before) (scoped_none 0 false (of_declarations before) (declared_none false false before h)))
 
+taken_plain : (truths : List Bool) (before : List Item) → has_groups before ≡ false → taken_at truths before ≡ names_taken before
+taken_plain truths before h =
+    ap (λ (ns : List ℕ). ns ++ names_of (kept_from truths [] (barred before))) (scope_plain truths before h)
+    ∙ ap (λ (ys : List Item). names_in_scope before ++ names_of ys)
+    (all_stay truths (barred before) (locals_plain (not (is_static_behind before)) false false (of_declarations before) (declared_none false false before h)))
+
 -- a name is missed where it stands in its own declarator, or behind the block of its declaration
 abbrev is_plain_missed : List Item → ℕ → Bool
 is_plain_missed before x = is_in_own before x || not (is_among x (names_in_scope before))
@@ -89,10 +96,10 @@ missed_plain context before x h values =
     ap (λ (b : Bool). b && (is_in_own before x || not (is_among x (in_scope_at (truths_at context values) before)))) (kept_plain (truths_at context values) before h)
     ∙ ap (λ (ns : List ℕ). is_in_own before x || not (is_among x ns)) (scope_plain (truths_at context values) before h)
 
-met_plain : (context : NameContext) (before : List Item) (x : ℕ) → has_groups before ≡ false → (values : List ℤ) → is_met_again context before x values ≡ is_among x (names_in_scope before)
+met_plain : (context : NameContext) (before : List Item) (x : ℕ) → has_groups before ≡ false → (values : List ℤ) → is_met_again context before x values ≡ is_among x (names_taken before)
 met_plain context before x h values =
-    ap (λ (b : Bool). b && is_among x (in_scope_at (truths_at context values) before)) (kept_plain (truths_at context values) before h)
-    ∙ ap (is_among x) (scope_plain (truths_at context values) before h)
+    ap (λ (b : Bool). b && is_among x (taken_at (truths_at context values) before)) (kept_plain (truths_at context values) before h)
+    ∙ ap (is_among x) (taken_plain (truths_at context values) before h)
 
 -- where this holds nowhere, nothing is found
 pub never_found : (model : Model) (holds : List ℤ → Bool) (code : Option (List ℤ) → FileCode) (other fault : Option FileCode) → ((values : List ℤ) → holds values ≡ false) → IsWithFirst model holds code other fault → fault ≡ other
@@ -143,9 +150,9 @@ use_plain context before x fault h u =
     ] u
 
 declaration_plain : (context : NameContext) (before : List Item) (x : ℕ) (fault : Option FileCode) → has_groups before ≡ false → IsDeclarationFault context before x fault
-    → IsEither (is_among x (names_in_scope before)) (IsWithFirst context.model (λ (values : List ℤ). true) Twice (new_name_fault context before x) fault) (fault ≡ new_name_fault context before x)
+    → IsEither (is_among x (names_taken before)) (IsWithFirst context.model (λ (values : List ℤ). true) Twice (new_name_fault context before x) fault) (fault ≡ new_name_fault context before x)
 declaration_plain context before x fault h w =
-    elim (is_among x (names_in_scope before)) as (λ a. is_among x (names_in_scope before) ≡ a → IsEither a (IsWithFirst context.model (λ (values : List ℤ). true) Twice (new_name_fault context before x) fault) (fault ≡ new_name_fault context before x)) [
+    elim (is_among x (names_taken before)) as (λ a. is_among x (names_taken before) ≡ a → IsEither a (IsWithFirst context.model (λ (values : List ℤ). true) Twice (new_name_fault context before x) fault) (fault ≡ new_name_fault context before x)) [
       | true ↦ λ a. record { found = w.found; finds = found_same context.model (is_met_again context before x) (λ (values : List ℤ). true) (λ values. met_plain context before x h values ∙ a) w.found w.finds; fault_is = w.fault_is }
       | false ↦ λ a. never_found context.model (is_met_again context before x) Twice (new_name_fault context before x) fault (λ values. met_plain context before x h values ∙ a) w
     ] refl
@@ -153,7 +160,7 @@ declaration_plain context before x fault h w =
 pub plain_names : PlainNames
 plain_names context before x fault h n =
     elim (is_used_behind before) as (λ m. IsEither m (IsUseFault context before x fault) (IsDeclarationFault context before x fault) → IsEither m (IsPlainUseFault context before x fault)
-    (IsEither (is_among x (names_in_scope before)) (IsWithFirst context.model (λ (values : List ℤ). true) Twice (new_name_fault context before x) fault) (fault ≡ new_name_fault context before x))) [
+    (IsEither (is_among x (names_taken before)) (IsWithFirst context.model (λ (values : List ℤ). true) Twice (new_name_fault context before x) fault) (fault ≡ new_name_fault context before x))) [
       | true ↦ λ u. use_plain context before x fault h u
       | false ↦ λ w. declaration_plain context before x fault h w
     ] n

@@ -24,6 +24,7 @@ use Rattle.c_grammar.specs.Grammar.{at}
 use Rattle.c_grammar.specs.Kept.{directive_of}
 use Rattle.c_grammar.specs.Locals.{declares_behind, is_in_own}
 use Rattle.c_grammar.specs.Scoped.{IsSound, is_inside, still}
+use Rattle.c_grammar.specs.Scopes.{is_static_behind}
 use Rattle.family_names.specs.declared.constants.Constants.{Constants}
 use Rattle.family_names.specs.declared.declarations.Declaration.{Declaration}
 use Rattle.family_names.specs.declared.seen.Seen.{Seen}
@@ -34,23 +35,20 @@ use Rattle.family_names.specs.Declarations.{is_kept as declaration_kept, is_decl
 use Rattle.family_names.specs.Groups.{sections}
 use Rattle.family_names.specs.Names.{NameContext, truths_at, is_main, has_main, name_of, declared_by, in_scope_at, constants_of, names_of_class, class_behind, values_of, is_among, with_number, each_once, is_kept, is_missed, is_met_again, is_feature, is_value, value_fault, full_fault, new_name_fault, code_with, IsWithFirst, IsEither, is_used_behind, IsUseFault, IsDeclarationFault, IsCallFault, IsPrototypeFault, IsNameFault, IsChangeFault, changed_place, IsFaultFrom}
 use Rattle.family_names.specs.Judging as judging
-use Rattle.family_names.specs.Judging.{AreFunctions, names_in, IsSeen, AreUsed, AreSettled, begun, UsesValue, IsOtherFault, Uses, AreNamed, new_fault, with_new, IsAgain, HasName, Adds, Declares, IsCall, DeclaresFunction, Passes, Judges, AreHeld, IsChange}
+use Rattle.family_names.specs.Judging.{AreFunctions, AreLocals, names_in, IsSeen, AreUsed, AreSettled, begun, UsesValue, IsOtherFault, Uses, taken_in, new_fault, with_new, IsAgain, HasName, Adds, Declares, IsCall, DeclaresFunction, Passes, Judges, AreHeld, IsChange}
 use Rattle.family_names.proofs.Answering.{found_same}
 use Rattle.family_names.proofs.Blocks.{stays}
-use Rattle.family_names.proofs.Declared.{behind_more, main_on, AreStill, more_named, still_used, still_other, once_append, or_false, among_once, or_left, still_declared, one_more}
+use Rattle.family_names.proofs.Declared.{behind_more, main_on, AreStill, more_named, still_used, still_other, once_append, or_false, among_once, or_left, one_more}
 use Rattle.family_names.proofs.Calling.{still_functions, declared_functions, call_is, prototype_is}
 use Rattle.family_names.proofs.FunctionsBehind.{AreStillFunctions, IsFunctionMore, called_functions, other_functions, more_functions}
 use Rattle.family_names.proofs.ClassesBehind.{still_class, more_class, used_unnamed, used_other, used_names}
 use Rattle.family_names.proofs.Features.{no_value}
+use Rattle.family_names.proofs.LocalsBehind.{still_locals, declared_locals, repeated_same}
 
 -- ---- what is seen
 
 seen_among : (before : List Item) (seen : Seen) (x : ℕ) → IsSeen before seen → is_among x seen.names.items ≡ is_among x (declared_by before)
 seen_among before seen x k = ap (is_among x) k.names ∙ among_once x [] (declared_by before)
-
-pub seen_named : (before : List Item) (seen : Seen) → IsSeen before seen → AreNamed seen
-seen_named before seen k truths x h =
-    seen_among before seen x k ∙ still_declared x 0 truths before (sym (k.declarations 0 truths x) ∙ h)
 
 -- before the first item nothing is settled
 pub none_settled : (context : NameContext) (seen : Seen) (settled : Scoped Declaration) → IsSeen [] seen → IsSound settled → is_inside settled ≡ false → ((n : ℕ) → still n settled ≡ []) → AreSettled context seen.declarations settled
@@ -79,11 +77,6 @@ missed_same context before seen own x k o values =
     ∙ ap (λ (b : Bool). is_kept (truths_at context values) before && b) (not_begun own (still 0 seen.declarations) (truths_at context values) x
     ∙ ap (λ (b : Bool). own || not b) (k.declarations 0 (truths_at context values) x)
     ∙ ap (λ (b : Bool). b || not (is_among x (in_scope_at (truths_at context values) before))) o)
-
-met_same : (context : NameContext) (before : List Item) (seen : Seen) (x : ℕ) → IsSeen before seen → (values : List ℤ) → judging.is_met_again context seen.groups (still 0 seen.declarations) x values ≡ is_met_again context before x values
-met_same context before seen x k values =
-    ap (λ (ss : List Section). all_kept ss && is_declared (truths_at context values) (still 0 seen.declarations) x) (k.groups (truths_at context values))
-    ∙ ap (λ (b : Bool). is_kept (truths_at context values) before && b) (k.declarations 0 (truths_at context values) x)
 
 pub first_same : (model : Model) (a b : List ℤ → Bool) (code : Option (List ℤ) → FileCode) (other fault : Option FileCode) → ((values : List ℤ) → a values ≡ b values) → IsWithFirst model a code other fault → IsWithFirst model b code other fault
 first_same model a b code other fault same h = record { found = h.found; finds = found_same model a b same h.found h.finds; fault_is = h.fault_is }
@@ -144,19 +137,21 @@ new_is context before seen used class x k a c =
     ∙ ap (λ (ns : List ℕ). if is_feature context x then Some FeatureInCode else (if is_among x (declared_by before) then None else full_fault class (length (names_of_class class before)) (length ns))) a.names
     ∙ ap (λ (c : NameClass). if is_feature context x then Some FeatureInCode else (if is_among x (declared_by before) then None else full_fault c (length (names_of_class c before)) (length (values_of context before)))) c
 
-declaration_is : (context : NameContext) (before : List Item) (seen : Seen) (used : Used) (class : NameClass) (x : ℕ) (fault : Option FileCode) → IsSeen before seen → AreUsed context before used → class ≡ class_behind before → IsAgain context seen (length used.names.items) class x fault
-    → IsDeclarationFault context before x fault
-declaration_is context before seen used class x fault k a c h =
-    first_same context.model (judging.is_met_again context seen.groups (still 0 seen.declarations) x) (is_met_again context before x) Twice (new_name_fault context before x) fault (met_same context before seen x k)
-    (subst (λ (o : Option FileCode). IsWithFirst context.model (judging.is_met_again context seen.groups (still 0 seen.declarations) x) Twice o fault) (new_is context before seen used class x k a c) h)
+declaration_is : (context : NameContext) (before : List Item) (seen : Seen) (used : Used) (class : NameClass) (static : Bool) (x : ℕ) (fault : Option FileCode) → IsSeen before seen → AreUsed context before used → class ≡ class_behind before → static ≡ is_static_behind before
+    → IsAgain context seen (length used.names.items) class static x fault → IsDeclarationFault context before x fault
+declaration_is context before seen used class static x fault k a c s h =
+    first_same context.model (judging.is_met_again context seen.groups (taken_in static seen) x) (is_met_again context before x) Twice (new_name_fault context before x) fault (repeated_same context before seen static x k s)
+    (subst (λ (o : Option FileCode). IsWithFirst context.model (judging.is_met_again context seen.groups (taken_in static seen) x) Twice o fault) (new_is context before seen used class x k a c) h)
 
 -- ---- one item more
 
 -- behind an item that declares no name
 still_seen : (before : List Item) (x : Item) (old new : Seen) → IsSeen before old → AreFunctions (before ++ x ∷ []) new.functions → AreStill before x → ((truths : List Bool) → sections truths new.groups ≡ sections_after truths (sections truths old.groups) (directive_of x.sign))
-    → new.in_main ≡ (old.in_main || is_main x.sign) → new.names.items ≡ old.names.items → ((class : NameClass) → names_in class new ≡ names_in class old) → FollowsBlocks old.declarations old.in_main x.sign new.declarations → IsSeen (before ++ x ∷ []) new
-still_seen before x old new k f s groups main names classes blocks = record {
+    → new.in_main ≡ (old.in_main || is_main x.sign) → new.names.items ≡ old.names.items → ((class : NameClass) → names_in class new ≡ names_in class old) → FollowsBlocks old.declarations old.in_main x.sign new.declarations → new.local_declarations ≡ old.local_declarations
+    → IsSeen (before ++ x ∷ []) new
+still_seen before x old new k f s groups main names classes blocks locals = record {
   functions = f;
+  locals = subst (AreLocals (before ++ x ∷ [])) (sym locals) (still_locals before x old.local_declarations s k.locals);
   groups = λ truths. groups truths ∙ ap (λ (ss : List Section). sections_after truths ss (directive_of x.sign)) (k.groups truths) ∙ sym (behind_more truths [] before x);
   main = main ∙ ap (λ (b : Bool). b || is_main x.sign) k.main ∙ sym (main_on before x);
   names = names ∙ k.names ∙ ap (each_once []) (sym s.any);
@@ -169,11 +164,12 @@ still_seen before x old new k f s groups main names classes blocks = record {
 
 -- behind a name or a function the same stands
 seen_still : (before : List Item) (x : Item) (old new : Seen) → IsSeen before old → AreFunctions (before ++ x ∷ []) new.functions → AreStill before x → new.groups ≡ old.groups → new.in_main ≡ old.in_main → new.names.items ≡ old.names.items
-    → ((class : NameClass) → names_in class new ≡ names_in class old) → new.declarations ≡ old.declarations → directive_of x.sign ≡ None → is_main x.sign ≡ false → ((main : Bool) (n : ℕ) → left_before x.sign main n ≡ n) → IsSeen (before ++ x ∷ []) new
-seen_still before x old new k f s groups main names classes declarations no_group no_main left =
+    → ((class : NameClass) → names_in class new ≡ names_in class old) → new.declarations ≡ old.declarations → new.local_declarations ≡ old.local_declarations
+    → directive_of x.sign ≡ None → is_main x.sign ≡ false → ((main : Bool) (n : ℕ) → left_before x.sign main n ≡ n) → IsSeen (before ++ x ∷ []) new
+seen_still before x old new k f s groups main names classes declarations locals no_group no_main left =
     let same : (old.in_main || is_main x.sign) ≡ old.in_main = ap (λ (b : Bool). old.in_main || b) no_main ∙ or_false old.in_main in
     still_seen before x old new k f s (λ truths. ap (sections truths) groups ∙ sym (ap (sections_after truths (sections truths old.groups)) no_group)) (main ∙ sym same) names classes
-    (subst (FollowsBlocks old.declarations old.in_main x.sign) (sym declarations) (stays old.declarations old.in_main x.sign k.sound (k.inside ∙ sym k.main) same (left old.in_main)))
+    (subst (FollowsBlocks old.declarations old.in_main x.sign) (sym declarations) (stays old.declarations old.in_main x.sign k.sound (k.inside ∙ sym k.main) same (left old.in_main))) locals
 
 -- the same functions, behind an item that declares none
 same_functions : (before : List Item) (x : Item) (old new : Seen) → IsSeen before old → AreStillFunctions before x → new.functions ≡ old.functions → AreFunctions (before ++ x ∷ []) new.functions
@@ -184,7 +180,7 @@ pub at_use : (context : NameContext) (before : List Item) (sign : Sign) (seen : 
 at_use context before sign seen old new settled own x fault is used o k a u = subst (λ (t : Sign). Judges context before t seen new settled fault) (sym is) (record {
   fault_is = subst (λ (b : Bool). IsEither b (IsUseFault context before x fault) (IsDeclarationFault context before x fault)) (sym used) (use_is context before seen old new settled own x fault k o a u);
   seen_is = λ _ p. seen_still before (at p (signs.Name x)) seen seen k (still_functions before (at p (signs.Name x)) seen.functions (other_functions before (at p (signs.Name x)) refl) k.functions) (still_used before p x used)
-      refl refl refl (λ class. refl) refl refl refl (λ main n. refl);
+      refl refl refl (λ class. refl) refl refl refl refl (λ main n. refl);
   used_is = λ none p. used_is context before p seen old new settled own x (used_in_main before used) a (subst (Uses context seen old settled own x new) none u);
   settled_is = λ _. u.settled_is;
 })
@@ -199,8 +195,9 @@ class_more old new class x a classes.Variable = a.variables
 class_more old new class x a classes.Local = a.locals
 class_more old new class x a classes.Constant = a.constants
 
-more_seen : (before : List Item) (p : Place) (class : NameClass) (x : ℕ) (old new : Seen) → IsSeen before old → is_used_behind before ≡ false → class ≡ class_behind before → Adds old class x new → IsSeen (before ++ at p (signs.Name x) ∷ []) new
-more_seen before p class x old new k h c a =
+more_seen : (before : List Item) (p : Place) (class : NameClass) (static : Bool) (x : ℕ) (old new : Seen) → IsSeen before old → is_used_behind before ≡ false → class ≡ class_behind before → static ≡ is_static_behind before → Adds old class static x new
+    → IsSeen (before ++ at p (signs.Name x) ∷ []) new
+more_seen before p class static x old new k h c s a =
     let m = more_named before p x h in
     let alone : has_main (before ++ at p (signs.Name x) ∷ []) ≡ has_main before = main_on before (at p (signs.Name x)) ∙ or_false (has_main before) in
     record {
@@ -210,6 +207,7 @@ more_seen before p class x old new k h c a =
       classes = λ other. class_more old new class x a.named other ∙ ap (λ (ns : List ℕ). with_new (is_class other class) ns (names_in other old) x) k.names ∙ ap (λ (ns : List ℕ). with_new (is_class other class) (each_once [] (declared_by before)) ns x) (k.classes other)
           ∙ ap (λ (d : NameClass). with_new (is_class other d) (each_once [] (declared_by before)) (names_of_class other before) x) c ∙ sym (more_class other before p x h);
       functions = same_functions before (at p (signs.Name x)) old new k (other_functions before (at p (signs.Name x)) refl) a.named.functions;
+      locals = declared_locals before p old.groups old.in_main static x old.local_declarations new.local_declarations h k.groups k.main s k.locals a.locals;
       sound = a.declarations.sound;
       inside = a.declarations.inside ∙ k.inside ∙ sym alone;
       declarations = λ n truths y. ap (λ (ds : List Declaration). is_declared truths ds y) (a.declarations.still_is n ∙ ap (λ (b : Bool). with_shown (is_shown n b) (still n old.declarations) (record { name = x; groups = old.groups })) k.inside)
@@ -233,22 +231,23 @@ no_feature : (b : Bool) (other : Option FileCode) → (if b then Some FeatureInC
 no_feature true other e = absurd cc
 no_feature false other e = refl
 
-again_none : (context : NameContext) (seen : Seen) (values : ℕ) (class : NameClass) (x : ℕ) (fault : Option FileCode) → IsAgain context seen values class x fault → fault ≡ None → is_feature context x ≡ false
-again_none context seen values class x fault h none = by_found h.found (sym h.fault_is ∙ none)
+again_none : (context : NameContext) (seen : Seen) (values : ℕ) (class : NameClass) (static : Bool) (x : ℕ) (fault : Option FileCode) → IsAgain context seen values class static x fault → fault ≡ None → is_feature context x ≡ false
+again_none context seen values class static x fault h none = by_found h.found (sym h.fault_is ∙ none)
   where
     by_found : (found : Option Config) → code_with Twice (new_fault context seen values class x) found ≡ None → is_feature context x ≡ false
     by_found None e = no_feature (is_feature context x) (if is_among x seen.names.items then None else full_fault class (length (names_in class seen)) values) e
     by_found (Some config) e = absurd cc
 
-pub at_declaration : (context : NameContext) (before : List Item) (sign : Sign) (seen new : Seen) (used : Used) (settled : Scoped Declaration) (values : ℕ) (class : NameClass) (constant : Bool) (x : ℕ) (fault : Option FileCode) → sign ≡ signs.Name x → is_used_behind before ≡ false → IsSeen before seen
-    → AreUsed context before used → AreSettled context seen.declarations settled → class ≡ class_of seen.in_main constant → constant ≡ is_constant (kind_after kinds.Variable before) → values ≡ length used.names.items → Declares context seen values class x new fault
-    → Judges context before sign new used settled fault
-at_declaration context before sign seen new used settled values class constant x fault is not_used k a s of c v d =
+pub at_declaration : (context : NameContext) (before : List Item) (sign : Sign) (seen new : Seen) (used : Used) (settled : Scoped Declaration) (values : ℕ) (class : NameClass) (constant static : Bool) (x : ℕ) (fault : Option FileCode) → sign ≡ signs.Name x → is_used_behind before ≡ false → IsSeen before seen
+    → AreUsed context before used → AreSettled context seen.declarations settled → class ≡ class_of seen.in_main constant → constant ≡ is_constant (kind_after kinds.Variable before) → static ≡ is_static_behind before → values ≡ length used.names.items
+    → Declares context seen values class static x new fault → Judges context before sign new used settled fault
+at_declaration context before sign seen new used settled values class constant static x fault is not_used k a s of c t v d =
     let same : class ≡ class_behind before = of ∙ ap (λ (b : Bool). class_of b constant) k.main ∙ ap (class_of (has_main before)) c in
-    subst (λ (t : Sign). Judges context before t new used settled fault) (sym is) (record {
-      fault_is = subst (λ (b : Bool). IsEither b (IsUseFault context before x fault) (IsDeclarationFault context before x fault)) (sym not_used) (declaration_is context before seen used class x fault k a same (subst (λ (n : ℕ). IsAgain context seen n class x fault) v d.fault_is));
-      seen_is = λ none p. more_seen before p class x seen new k not_used same (d.added none);
-      used_is = λ none p. used_other context before p x used (no_value context x (again_none context seen values class x fault d.fault_is none)) a;
+    subst (λ (z : Sign). Judges context before z new used settled fault) (sym is) (record {
+      fault_is = subst (λ (b : Bool). IsEither b (IsUseFault context before x fault) (IsDeclarationFault context before x fault)) (sym not_used)
+          (declaration_is context before seen used class static x fault k a same t (subst (λ (n : ℕ). IsAgain context seen n class static x fault) v d.fault_is));
+      seen_is = λ none p. more_seen before p class static x seen new k not_used same t (d.added none);
+      used_is = λ none p. used_other context before p x used (no_value context x (again_none context seen values class static x fault d.fault_is none)) a;
       settled_is = λ none. more_settled context seen.declarations new.declarations settled seen.groups x (d.added none).declarations s;
     })
 
@@ -281,7 +280,7 @@ pub at_other : (context : NameContext) (before : List Item) (sign : Sign) (seen 
 at_other context before sign seen new used old_settled settled o k a s passes = record {
   fault_is = o.has_no_fault context before;
   seen_is = λ _ p. still_seen before (at p sign) seen new k (same_functions before (at p sign) seen new k (other_functions before (at p sign) o.declares_no_function) passes.functions) (still_other before (at p sign) o.names_none) passes.groups
-      passes.main passes.names (same_classes seen new passes.variables passes.locals passes.constants) passes.declarations;
+      passes.main passes.names (same_classes seen new passes.variables passes.locals passes.constants) passes.declarations passes.local_declarations;
   used_is = λ _ p. used_unnamed context before (at p sign) used o.names_none a;
   settled_is = λ _. settled_on context seen.declarations new.declarations old_settled settled seen.in_main sign passes.declarations passes.settled_too s;
 }
@@ -294,7 +293,7 @@ at_call context before sign seen used settled wants k fault is main s a settles 
   fault_is = subst (λ (b : Bool). IsEither b (IsCallFault context before k fault) (IsPrototypeFault context before k fault)) (sym (sym s.main ∙ main))
       (call_is context before seen.groups seen.functions wants k fault s.groups s.functions e call);
   seen_is = λ _ p. seen_still before (at p (signs.Function k)) seen seen s (still_functions before (at p (signs.Function k)) seen.functions (called_functions before (at p (signs.Function k)) (sym s.main ∙ main)) s.functions)
-      (still_other before (at p (signs.Function k)) refl) refl refl refl (λ class. refl) refl refl refl (λ main n. refl);
+      (still_other before (at p (signs.Function k)) refl) refl refl refl (λ class. refl) refl refl refl refl (λ main n. refl);
   used_is = λ _ p. used_unnamed context before (at p (signs.Function k)) used refl a;
   settled_is = λ _. settles;
 })
@@ -306,6 +305,7 @@ pub record AreSame (old new : Seen) : Type 0 where
   pub names : new.names.items ≡ old.names.items
   pub classes : (class : NameClass) → names_in class new ≡ names_in class old
   pub declarations : new.declarations ≡ old.declarations
+  pub locals : new.local_declarations ≡ old.local_declarations
 
 pub at_prototype : (context : NameContext) (before : List Item) (sign : Sign) (seen new : Seen) (used : Used) (settled : Scoped Declaration) (void : Bool) (k : ℕ) (fault : Option FileCode) → sign ≡ signs.Function k → seen.in_main ≡ false → IsSeen before seen → AreUsed context before used
     → AreSettled context seen.declarations settled → void ≡ stands_behind is_void before → DeclaresFunction context seen.groups seen.functions void k new.functions fault → AreSame seen new → Judges context before sign new used settled fault
@@ -315,7 +315,7 @@ at_prototype context before sign seen new used settled void k fault is main s a 
   seen_is = λ none p. seen_still before (at p (signs.Function k)) seen new s
       (declared_functions before (before ++ at p (signs.Function k) ∷ []) seen.groups void k seen.functions new.functions s.groups
       (subst (λ (b : Bool). IsFunctionMore before (before ++ at p (signs.Function k) ∷ []) b k) (sym e) (more_functions before p k (sym s.main ∙ main))) s.functions (d.added none))
-      (still_other before (at p (signs.Function k)) refl) same.groups same.main same.names same.classes same.declarations refl refl (λ main n. refl);
+      (still_other before (at p (signs.Function k)) refl) same.groups same.main same.names same.classes same.declarations same.locals refl refl (λ main n. refl);
   used_is = λ _ p. used_unnamed context before (at p (signs.Function k)) used refl a;
   settled_is = λ _. subst (λ (ds : Scoped Declaration). AreSettled context ds settled) (sym same.declarations) settles;
 })

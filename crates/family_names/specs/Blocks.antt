@@ -7,13 +7,21 @@ use Rattle.c_grammar.specs.declared.scoped.Scoped.{Scoped}
 use Rattle.c_grammar.specs.Kept.{kept}
 use Rattle.c_grammar.specs.Locals.{is_main, names_of}
 use Rattle.c_grammar.specs.Scoped.{IsSound, is_inside, still}
-use Rattle.c_grammar.specs.Scopes.{still_in_scope}
+use Rattle.c_grammar.specs.Scopes.{still_in_scope, of_locals}
 use Rattle.family_names.specs.declared.declarations.Declaration.{Declaration}
 use Rattle.family_names.specs.declared.groups.Group.{Group}
 
 -- the names that are in scope behind the items, and where so many more blocks are left, and each condition has a truth
 abbrev pub still_at : ℕ → List Bool → List Item → List ℕ
 still_at n truths items = names_of (kept truths (still_in_scope n items))
+
+-- the names that `main` declares, or only those that it declares as static, whatever block and group they stand in
+abbrev pub locals_by : Bool → List Item → List ℕ
+locals_by only items = names_of (of_locals only items)
+
+-- those of them that are kept where each condition has a truth
+abbrev pub locals_at : List Bool → Bool → List Item → List ℕ
+locals_at truths only items = names_of (kept truths (of_locals only items))
 
 -- a name that is declared here, in `main` or before it, is in scope where so many more blocks are left: one of a block until that is left
 abbrev pub is_shown : ℕ → Bool → Bool

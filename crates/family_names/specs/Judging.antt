@@ -21,11 +21,12 @@ use Rattle.family_names.specs.declared.declarations.Declaration.{Declaration}
 use Rattle.family_names.specs.declared.constants.Constants.{Constants}
 use Rattle.family_names.specs.declared.seen.Seen.{Seen}
 use Rattle.family_names.specs.declared.functions.Functions.{Functions}
+use Rattle.family_names.specs.declared.locals.Locals.{Locals}
 use Rattle.family_names.specs.declared.values.Used.{Used}
 use Rattle.family_names.specs.declared.groups.Group.{Group}
 use Rattle.family_names.specs.declared.faults.Question.{Question}
 use Rattle.family_names.specs.declared.faults.Question.TheVariants as questions
-use Rattle.family_names.specs.Blocks.{is_shown, left_before, still_at, AddsDeclaration, FollowsBlocks}
+use Rattle.family_names.specs.Blocks.{is_shown, left_before, still_at, locals_by, locals_at, with_shown, AddsDeclaration, FollowsBlocks}
 use Rattle.family_names.specs.Declarations.{is_declared, has_one}
 use Rattle.family_names.specs.Functions.{functions_by, functions_at, callable_by, callable_at}
 use Rattle.family_names.specs.Groups.{sections, are_kept}
@@ -51,6 +52,15 @@ pub record AreFunctions (before : List Item) (functions : Functions) : Type 0 wh
   pub kinds : (void : Bool) → Tells (functions_in void functions) (functions_by void before) (λ truths. functions_at truths void before)
   pub all : Tells functions.all.items (callable_by false before) (λ truths. callable_at truths false before)
 
+-- the declarations of names in `main`, or only the static ones
+abbrev pub locals_in : Bool → Locals → List Declaration
+locals_in true locals = locals.statics.items
+locals_in false locals = locals.all.items
+
+-- what is known of the names that `main` declares in these items, whatever block they stand in
+pub record AreLocals (before : List Item) (locals : Locals) : Type 0 where
+  pub told : (only : Bool) → Tells (locals_in only locals) (locals_by only before) (λ truths. locals_at truths only before)
+
 -- the names of a class that are seen, each once
 abbrev pub names_in : NameClass → Seen → List ℕ
 names_in classes.Variable seen = seen.variables.items
@@ -66,6 +76,7 @@ pub record IsSeen (before : List Item) (seen : Seen) : Type 0 where
   pub sound : IsSound seen.declarations
   pub inside : is_inside seen.declarations ≡ has_main before
   pub declarations : (n : ℕ) (truths : List Bool) (x : ℕ) → is_declared truths (still n seen.declarations) x ≡ is_among x (still_at n truths before)
+  pub locals : AreLocals before seen.local_declarations
   pub functions : AreFunctions before seen.functions
 
 -- what is known of features behind these items
@@ -124,9 +135,10 @@ pub record Uses (context : NameContext) (seen : Seen) (old : Used) (settled : Sc
   pub fault_is : IsEither (is_value context x) (UsesValue context (length seen.constants.items) old x new fault) (IsOtherFault context seen own x fault × (new ≡ old))
   pub settled_is : AreSettled context seen.declarations settled
 
--- a name with a declaration that is kept is among those that are declared
-abbrev pub AreNamed : Seen → Type 0
-AreNamed seen = (truths : List Bool) (x : ℕ) → is_declared truths (still 0 seen.declarations) x ≡ true → is_among x seen.names.items ≡ true
+-- the declarations that the next one, static or not, may not repeat: those in scope, and, in whatever block, those of `main` that are static,
+-- or all of `main` where the next one is
+abbrev pub taken_in : Bool → Seen → List Declaration
+taken_in static seen = still 0 seen.declarations ++ locals_in (not static) seen.local_declarations
 
 -- the fault of a declaration whose name no declaration before it has at the same configuration: of this class, if the name is new, where so
 -- many features are used as values
@@ -135,8 +147,8 @@ new_fault context seen values class x =
     if is_feature context x then Some FeatureInCode
     else (if is_among x seen.names.items then None else full_fault class (length (names_in class seen)) values)
 
-abbrev pub IsAgain : NameContext → Seen → ℕ → NameClass → ℕ → Option FileCode → Type 0
-IsAgain context seen values class x fault = IsWithFirst context.model (is_met_again context seen.groups (still 0 seen.declarations) x) Twice (new_fault context seen values class x) fault
+abbrev pub IsAgain : NameContext → Seen → ℕ → NameClass → Bool → ℕ → Option FileCode → Type 0
+IsAgain context seen values class static x fault = IsWithFirst context.model (is_met_again context seen.groups (taken_in static seen) x) Twice (new_fault context seen values class x) fault
 
 -- a name behind those of a class, where it is of that class and not among all names
 abbrev pub with_new : Bool → List ℕ → List ℕ → ℕ → List ℕ
@@ -152,15 +164,21 @@ pub record HasName (old : Seen) (class : NameClass) (x : ℕ) (new : Seen) : Typ
   pub constants : new.constants.items ≡ with_new (is_class classes.Constant class) old.names.items old.constants.items x
   pub functions : new.functions ≡ old.functions
 
--- and its declaration behind the others, in the groups that stand here
-pub record Adds (old : Seen) (class : NameClass) (x : ℕ) (new : Seen) : Type 0 where
+-- a declaration in these groups stands behind the others of `main`, if it is one, and behind the static ones, if it is static too
+pub record AddsLocal (old : Locals) (groups : List Group) (main static : Bool) (x : ℕ) (new : Locals) : Type 0 where
+  pub all : new.all.items ≡ with_shown main old.all.items (record { name = x; groups = groups })
+  pub statics : new.statics.items ≡ with_shown (main && static) old.statics.items (record { name = x; groups = groups })
+
+-- and its declaration, which is static or not, behind the others, in the groups that stand here
+pub record Adds (old : Seen) (class : NameClass) (static : Bool) (x : ℕ) (new : Seen) : Type 0 where
   pub named : HasName old class x new
   pub declarations : AddsDeclaration old.declarations old.groups x new.declarations
+  pub locals : AddsLocal old.local_declarations old.groups old.in_main static x new.local_declarations
 
--- the fault of a name that is declared, where so many features are used as values; without one it is added
-pub record Declares (context : NameContext) (old : Seen) (values : ℕ) (class : NameClass) (x : ℕ) (new : Seen) (fault : Option FileCode) : Type 0 where
-  pub fault_is : IsAgain context old values class x fault
-  pub added : fault ≡ None → Adds old class x new
+-- the fault of a name that is declared, as static or not, where so many features are used as values; without one it is added
+pub record Declares (context : NameContext) (old : Seen) (values : ℕ) (class : NameClass) (static : Bool) (x : ℕ) (new : Seen) (fault : Option FileCode) : Type 0 where
+  pub fault_is : IsAgain context old values class static x fault
+  pub added : fault ≡ None → Adds old class static x new
 
 -- the fault of a call in these groups, where a value is wanted or not
 abbrev pub IsCall : NameContext → List Group → Functions → Bool → ℕ → Option FileCode → Type 0
@@ -191,6 +209,7 @@ pub record Passes (old : Seen) (old_settled : Scoped Declaration) (sign : Sign) 
   pub locals : new.locals.items ≡ old.locals.items
   pub constants : new.constants.items ≡ old.constants.items
   pub functions : new.functions ≡ old.functions
+  pub local_declarations : new.local_declarations ≡ old.local_declarations
   pub declarations : FollowsBlocks old.declarations old.in_main sign new.declarations
   pub settled_too : FollowsBlocks old_settled old.in_main sign settled
 

@@ -10,7 +10,7 @@ use Rattle.c_grammar.specs.declared.items.Sign.TheVariants as signs
 use Rattle.c_grammar.specs.Grammar.{is_group}
 use Rattle.c_grammar.specs.Functions.{is_void, is_equals, stands_behind}
 use Rattle.c_grammar.specs.Locals.{is_in_own}
-use Rattle.c_grammar.specs.Scopes.{names_in_scope}
+use Rattle.c_grammar.specs.Scopes.{names_in_scope, names_taken}
 use Rattle.family_names.specs.Functions.{functions_by, callable_by}
 use Rattle.family_names.specs.Names.{NameContext, truths_at, has_main, declared_by, constants_of, values_of, is_among, is_feature, is_value, value_fault, new_name_fault, function_fault, IsWithFirst, IsEither, is_used_behind, IsNameFault, IsFirstNameFault}
 
@@ -27,11 +27,11 @@ IsPlainUseFault context before x fault =
     (IsEither (not (is_among x (declared_by before))) (fault ≡ Some (Undeclared None))
     (IsEither (is_in_own before x || not (is_among x (names_in_scope before))) (IsWithFirst context.model (λ (values : List ℤ). true) Undeclared None fault) (fault ≡ None))))
 
--- the fault of a name without groups: of a second declaration in a scope the example is the least valid configuration
+-- the fault of a name without groups: of a second declaration of a name that is taken the example is the least valid configuration
 abbrev pub IsPlainFault : NameContext → List Item → ℕ → Option FileCode → Type 0
 IsPlainFault context before x fault =
     IsEither (is_used_behind before) (IsPlainUseFault context before x fault)
-    (IsEither (is_among x (names_in_scope before)) (IsWithFirst context.model (λ (values : List ℤ). true) Twice (new_name_fault context before x) fault)
+    (IsEither (is_among x (names_taken before)) (IsWithFirst context.model (λ (values : List ℤ). true) Twice (new_name_fault context before x) fault)
     (fault ≡ new_name_fault context before x))
 
 -- behind items without groups, the fault of a name is the plain one

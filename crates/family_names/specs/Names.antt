@@ -1,7 +1,8 @@
 -- The names that the items of a file with groups declare, and the first fault of a name (ISO/IEC 9899:2011, 6.5.1 and 6.7).
 -- Before `main` each name is that of a declaration, and so is a name of `main` behind a word of a type, `const` or a comma; each other
 -- name of `main` is used. The scope of a name begins behind its declarator and initialiser, since it has no value before, and goes on to
--- the end of its block, or of the file where it stands before `main` (6.2.1); in it the name is not declared again. A valid configuration
+-- the end of its block, or of the file where it stands before `main` (6.2.1); in it the name is not declared again. Variables of one name in
+-- blocks beside one another are one variable, so a static one (6.2.4p3) is the only one of its name in `main`. A valid configuration
 -- gives each condition a truth, and keeps the items that stand in kept groups. The name of an integer feature may be used in `main`: it is
 -- that of a variable which begins with the feature's value, and is never changed. A function is declared before `main` and called behind
 -- it (6.5.2.2 and 6.7.6.3).
@@ -30,7 +31,7 @@ use Rattle.c_grammar.specs.Constants.{is_constant, kind_after, of_constants}
 use Rattle.c_grammar.specs.declared.constants.NameClass.{NameClass}
 use Rattle.c_grammar.specs.declared.constants.NameClass.TheVariants as classes
 use Rattle.c_grammar.specs.Classes.{class_of, is_class, class_in}
-use Rattle.c_grammar.specs.Scopes.{in_scope}
+use Rattle.c_grammar.specs.Scopes.{in_scope, barred}
 use Rattle.c_grammar.specs.Functions.{is_void, is_equals, stands_behind}
 use Rattle.c_grammar.specs.Kept.{directive_of, kept}
 use Rattle.c_grammar.specs.Locals.{declares_behind, is_in_own}
@@ -45,7 +46,12 @@ pub use Rattle.family_names.specs.AroundMain.{is_main, has_main, until_main, beh
 abbrev pub in_scope_at : List Bool → List Item → List ℕ
 in_scope_at truths items = names_of (kept truths (in_scope items))
 
--- those of them that are declared as constants
+-- the names that the next declarator may not declare where each condition has a truth: those that are in scope, and, whatever block they are
+-- declared in, the static ones of `main`, or all of `main` where the next one is static
+abbrev pub taken_at : List Bool → List Item → List ℕ
+taken_at truths items = in_scope_at truths items ++ names_of (kept truths (barred items))
+
+-- those in scope that are declared as constants
 abbrev pub constants_at : List Bool → List Item → List ℕ
 constants_at truths items = in_scope_at truths (of_constants items)
 
@@ -161,10 +167,10 @@ abbrev pub is_missed : NameContext → List Item → ℕ → List ℤ → Bool
 is_missed context before x values =
     is_kept (truths_at context values) before && (is_in_own before x || not (is_among x (in_scope_at (truths_at context values) before)))
 
--- the name behind these items is kept, and a declaration of it is in scope
+-- the name behind these items is kept, and may not be declared there
 abbrev pub is_met_again : NameContext → List Item → ℕ → List ℤ → Bool
 is_met_again context before x values =
-    is_kept (truths_at context values) before && is_among x (in_scope_at (truths_at context values) before)
+    is_kept (truths_at context values) before && is_among x (taken_at (truths_at context values) before)
 
 -- what stands behind these items is kept, and a declaration of the name as a constant is in scope; or the name is that of a value
 abbrev pub is_met_constant : NameContext → List Item → ℕ → List ℤ → Bool
@@ -228,7 +234,7 @@ new_name_fault context before x =
     else (if is_among x (declared_by before) then None
     else full_fault (class_behind before) (length (names_of_class (class_behind before) before)) (length (values_of context before)))
 
--- where a name is declared: at some configuration an earlier declaration of it is in scope, or it is a feature's or the 17th of its class
+-- where a name is declared: at some configuration it is taken by an earlier declaration, or it is a feature's or the 17th of its class
 abbrev pub IsDeclarationFault : NameContext → List Item → ℕ → Option FileCode → Type 0
 IsDeclarationFault context before x fault =
     IsWithFirst context.model (is_met_again context before x) Twice (new_name_fault context before x) fault

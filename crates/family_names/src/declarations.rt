@@ -1,7 +1,7 @@
 //! Declarations and the groups that they stand in.
 #![tactic(auto)]
 
-ghost use Rattle.std.specs.Prelude.{◌≡◌, ℕ, Bool, true, List, ◌&&◌, ◌||◌, IfOk, OnOk};
+ghost use Rattle.std.specs.Prelude.{◌≡◌, ℕ, Bool, true, List, ◌++◌, ◌&&◌, ◌||◌, IfOk, OnOk};
 ghost use Rattle.std.specs.List.{All};
 ghost use Rattle.cpp_conditions.specs.Propositions.{IsBelow, true_on};
 ghost use Rattle.cpp_conditions.specs.View.{formula};
@@ -83,6 +83,24 @@ pub(crate) fn declaring(
             one_of(alloc, left, right)
         }
     }
+}
+
+/// That a declaration of the name is kept, one of these or of those.
+pub(crate) fn declaring_any(
+    alloc: Global,
+    conditions: &[Formula],
+    these: &[Declaration],
+    those: &[Declaration],
+    name: u32,
+) -> Result<Formula, NoMemory>
+    ensures truth { IfOk result (λ made. (v : List Bool)
+        → is_declared (truths_on conditions.now v) (these.now ++ those.now) name ≡ true_on v (formula made)) }
+    ensures below { IfOk result (λ made. (count : ℕ) → All (λ f. IsBelow count (formula f)) conditions.now
+        → IsBelow count (formula made)) }
+{
+    let left = declaring(alloc, conditions, these, name)?;
+    let right = declaring(alloc, conditions, those, name)?;
+    one_of(alloc, left, right)
 }
 
 /// Whether one of the declarations has the name.

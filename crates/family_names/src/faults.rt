@@ -237,45 +237,81 @@ fn new_name_fault(
     full_fault(class, seen.names_in(class).len(), values)
 }
 
-/// The fault of a declaration.
+/// That the name which stands here is kept, and a declaration that it may not repeat, as static or not.
+fn repeating(
+    alloc: Global,
+    context: &NameContext<'_>,
+    seen: &Seen,
+    is_static: bool,
+    name: u32,
+) -> Result<Formula, NoMemory>
+    requires { IsFit (plain context.now) }
+    ensures truth { IfOk result (λ made. (values : List ℤ)
+        → judging.is_met_again (plain context.now) seen.now.groups (judging.taken_in is_static seen.now) name values
+        ≡ true_on (vector_at context.now.atoms.now values) (formula made)) }
+    ensures below { IfOk result (λ made. IsBelow (length context.now.atoms.now) (formula made)) }
+{
+    let kept = keeping(alloc, context.conditions, &seen.groups)?;
+    let taken = seen.taking(alloc, context.conditions, is_static, name)?;
+    both(alloc, kept, taken)
+}
+
+/// The least valid configuration of which this holds.
+fn first_repeated(
+    alloc: Global,
+    context: &NameContext<'_>,
+    seen: &Seen,
+    is_static: bool,
+    name: u32,
+) -> Result<Option<Config>, NoMemory>
+    requires { IsFit (plain context.now) }
+    ensures { IfOk result (λ found. Finds context.now.model.now
+        (judging.is_met_again (plain context.now) seen.now.groups (judging.taken_in is_static seen.now) name) found) }
+{
+    let wanted = repeating(alloc, context, seen, is_static, name)?;
+    context.model.least_where(alloc, context.atoms, &wanted)
+}
+
+/// The fault of a declaration, as static or not. Nothing is asked where none that it may not repeat has its name.
 fn declaration_fault(
     alloc: Global,
     context: &NameContext<'_>,
     seen: &Seen,
     values: usize,
     class: NameClass,
+    is_static: bool,
     name: u32,
 ) -> Result<Option<FileCode>, NoMemory>
     requires { IsFit (plain context.now) }
-    ensures { judging.AreNamed seen.now
-        → IfOk result (λ fault. judging.IsAgain (plain context.now) seen.now values class name fault) }
+    ensures { IfOk result (λ fault. judging.IsAgain (plain context.now) seen.now values class is_static name fault) }
 {
-    if !contains(&seen.names, name) {
+    if !seen.is_taken(is_static, name) {
         return Ok(new_name_fault(context, seen, values, class, name));
     }
-    match first_of_name(alloc, context, seen, Question::MetAgain, name)? {
+    match first_repeated(alloc, context, seen, is_static, name)? {
         Some(config) => Ok(Some(FileCode::Twice(Some(config.values)))),
         None => Ok(new_name_fault(context, seen, values, class, name)),
     }
 }
 
-/// The fault of a declaration, of this class if its name is new, where so many features are used as values; without one it is
-/// added.
+/// The fault of a declaration, as static or not, and of this class if its name is new, where so many features are used as
+/// values; without one it is added.
 pub(crate) fn declare(
     alloc: Global,
     context: &NameContext<'_>,
     seen: &mut Seen,
     values: usize,
     class: NameClass,
+    is_static: bool,
     name: u32,
 ) -> Result<Option<FileCode>, NoMemory>
     requires { IsFit (plain context.now) }
-    ensures { IsSound seen.old.declarations → judging.AreNamed seen.old
-        → IfOk result (λ fault. judging.Declares (plain context.now) seen.old values class name seen.new fault) }
+    ensures { IsSound seen.old.declarations
+        → IfOk result (λ fault. judging.Declares (plain context.now) seen.old values class is_static name seen.new fault) }
 {
-    let fault = declaration_fault(alloc, context, seen, values, class, name)?;
+    let fault = declaration_fault(alloc, context, seen, values, class, is_static, name)?;
     if fault.is_none() {
-        seen.add(alloc, class, name)?;
+        seen.add(alloc, class, is_static, name)?;
     }
     Ok(fault)
 }

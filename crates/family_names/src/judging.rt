@@ -112,7 +112,8 @@ fn judge(
             } else {
                 let values = used.names.len();
                 let class = NameClass::of(seen.in_main, track.is_constant());
-                declare(alloc, context, seen, values, class, number)
+                let is_static = track.is_static();
+                declare(alloc, context, seen, values, class, is_static, number)
             }
         }
         Sign::Function(number) => {
@@ -139,8 +140,10 @@ fn judge(
 ///   of it that is in scope, and then with the values of the least one (ISO/IEC 9899:2011, 6.5.1). So it is of a function that
 ///   is called, where a declaration with `void` doesn't count if a value is wanted (6.5.2.2).
 /// - F14: a name is declared, and some valid configuration keeps it and an earlier declaration of it that is in scope, with
-///   the values of the least one (6.7): no name hides another. So it is of a function, where only a declaration with another
-///   result counts: `void` or a value.
+///   the values of the least one (6.7): no name hides another. Where one of the two is static, each earlier one in `main`
+///   counts, whatever block it stands in: variables of one name in `main` are one variable, and a static one has its value
+///   before the program starts (6.2.4p3). So it is of a function, where only a declaration with another result counts: `void`
+///   or a value.
 /// - F15: a feature's name is declared, as a name or a function, or a Boolean feature's is used.
 /// - F17: a 17th variable is declared before `main`, or a 17th name in it.
 /// - F22: an integer feature is used as a value for the first time, and more than 256 tests tell its value and those of the
@@ -156,16 +159,18 @@ fn judge(
 /// declaration, wherever it is declared again: a variable's or a constant's before `main`, or one of `main`, with `const` or
 /// without; names of each class are counted once. The scope of a name begins behind its declarator and initialiser, since it
 /// has no value before (`int x = x;` is F13). Before `main` it goes on to the end of the file, and in `main` to the end of the
-/// block that the declaration stands in (6.2.1), whatever groups the braces stand in; behind it the name may be declared again.
+/// block that the declaration stands in (6.2.1), whatever groups the braces stand in; behind it the name may be declared again,
+/// where neither is static. A declaration in `main` is static from `static` on to its semicolon.
 /// A function is declared with `void` directly behind that word, and a value is wanted of it directly behind `=`; it counts as
 /// no variable. A configuration keeps an item where each group around it is the kept one of its section (6.10.1). The
 /// formulas' numbers are below the number of atoms, and the atoms are as for `Prepared::least_where`. It answers an error only
 /// for want of memory.
 ///
 /// The solver is asked once for each name, list of groups around it and block, and once more for each name and block, unless
-/// an answer of the same block or one around it tells; once for each call, each further declaration of a name, each use of one
-/// in its own declarator, and each change of a constant or a value. It is not asked of a use or a call where a declaration
-/// stands in the outermost of those groups. Otherwise the time is that of the items by the declarations and these answers.
+/// an answer of the same block or one around it tells; once for each call, each declaration of a name that an earlier one takes
+/// in some groups, each use of a name in its own declarator, and each change of a constant or a value. It is not asked of a use
+/// or a call where a declaration stands in the outermost of those groups. Otherwise the time is that of the items by the
+/// declarations and these answers.
 pub fn first_name_fault(
     alloc: Global,
     context: &NameContext<'_>,

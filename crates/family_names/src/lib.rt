@@ -8,6 +8,7 @@ mod functions;
 mod groups;
 pub mod judging;
 pub mod laws;
+mod locals;
 pub mod name_context;
 mod questions;
 mod seen;

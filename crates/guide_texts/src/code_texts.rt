@@ -49,7 +49,7 @@ pub const FILE_CODES: [(&str, &str); 23] = [
     ),
     (
         "F14",
-        "F14: A file is refused.\nCause: the second declaration of a name where one of it is in scope; at the\nname. Or: a declaration that some valid configuration keeps where an earlier one\nis in scope; with the least such configuration.\nWhat to do: keep one. Or: keep one for each configuration.\n",
+        "F14: A file is refused.\nCause: the second declaration of a name where one of it is in scope, or of a\nname of `main` where one of the two is `static`; at the name. Or: a declaration\nthat some valid configuration keeps where an earlier one is in scope; with the\nleast such configuration.\nWhat to do: keep one. Or: keep one for each configuration.\n",
     ),
     (
         "F17",

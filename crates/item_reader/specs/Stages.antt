@@ -1,6 +1,6 @@
 -- The stages of a file: which function takes the step of a state.
 use Rattle.std.specs.Prelude.{ℕ}
-use Rattle.c_grammar.specs.Machine.{ReadingState, Outside, AfterStatic, AfterExtern, AfterConst, AfterEnum, AfterVoidType, AfterType, Declaring, Bare, Starting, Negating, Started, Listing, Enumerated, AfterDefine, Defining, NegativeDefining, Enclosing, NegativeEnclosing, Enclosed, Parameters, InParameters, AfterVoid, AfterParameters, Ready, LocalConst, LocalType, NextLocal, LocalNamed, Ended, Wants, Has, Counting, Named, Opens, ForOpens, StartComes, TestComes, StepComes, VoidComes, VoidCloses, CallComes, CallOpens, CallCloses, Finishing, Returning, Returned, Closing, Over}
+use Rattle.c_grammar.specs.Machine.{ReadingState, Outside, AfterStatic, AfterExtern, AfterConst, AfterEnum, AfterVoidType, AfterType, Declaring, Bare, Starting, Negating, Started, Listing, Enumerated, AfterDefine, Defining, NegativeDefining, Enclosing, NegativeEnclosing, Enclosed, Parameters, InParameters, AfterVoid, AfterParameters, Ready, LocalConst, LocalType, NextLocal, LocalNamed, InStatic, Ended, Wants, Has, Counting, Named, Opens, ForOpens, StartComes, TestComes, StepComes, VoidComes, VoidCloses, CallComes, CallOpens, CallCloses, Finishing, Returning, Returned, Closing, Over}
 
 -- 0 before a declarator, 1 in it, 2 in a definition, 3 at a statement, 4 in a declaration in `main`, 5 at an expression,
 -- 6 in the parentheses of a `for`, 7 in a call, 8 in the parentheses of a function that is declared or at the end of a file
@@ -34,6 +34,7 @@ stage (LocalConst outer) = 4
 stage (LocalType kind words outer) = 4
 stage (NextLocal kind outer) = 4
 stage (LocalNamed kind p x outer) = 4
+stage (InStatic part outer) = 4
 stage (Wants fs u) = 5
 stage (Has fs u e) = 5
 stage (Opens u) = 5

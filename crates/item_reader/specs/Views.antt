@@ -33,6 +33,8 @@ use Rattle.item_reader.specs.declared.words.Qualifier.{Qualifier}
 use Rattle.item_reader.specs.declared.words.Qualifier.TheVariants as qualifiers
 use Rattle.item_reader.specs.declared.words.TypeWords.{TypeWords}
 use Rattle.item_reader.specs.declared.words.TypeWords.TheVariants as type_words
+use Rattle.item_reader.specs.declared.words.StaticPart.{StaticPart}
+use Rattle.item_reader.specs.declared.words.StaticPart.TheVariants as static_parts
 use Rattle.item_reader.specs.declared.states.Aim.{Aim}
 use Rattle.item_reader.specs.declared.states.Aim.TheVariants as aims
 use Rattle.item_reader.specs.declared.states.Tailing.{Tailing}
@@ -119,6 +121,16 @@ as_words type_words.OneInt = machine.OneInt
 as_words type_words.OneSigned = machine.OneSigned
 as_words type_words.WholeType = machine.WholeType
 
+abbrev pub as_static_part : StaticPart → machine.StaticPart
+as_static_part static_parts.BehindStatic = machine.BehindStatic
+as_static_part static_parts.BehindStaticConst = machine.BehindStaticConst
+as_static_part (static_parts.BehindStaticType kind words) = machine.BehindStaticType (as_qualifier kind) (as_words words)
+as_static_part (static_parts.BeforeStaticName kind) = machine.BeforeStaticName (as_qualifier kind)
+as_static_part (static_parts.BehindStaticName kind) = machine.BehindStaticName (as_qualifier kind)
+as_static_part (static_parts.BehindStaticEquals kind) = machine.BehindStaticEquals (as_qualifier kind)
+as_static_part (static_parts.BehindStaticMinus kind) = machine.BehindStaticMinus (as_qualifier kind)
+as_static_part (static_parts.BehindStaticNumber kind) = machine.BehindStaticNumber (as_qualifier kind)
+
 abbrev pub as_aim : Aim → machine.Aim
 as_aim (aims.ToPrototype secs declared) = machine.ToPrototype (as_sections secs) declared.items
 as_aim (aims.ToMain declared) = machine.ToMain declared.items
@@ -163,6 +175,7 @@ as_state (states.LocalConst outer) = machine.LocalConst (as_stack outer)
 as_state (states.LocalType kind words outer) = machine.LocalType (as_qualifier kind) (as_words words) (as_stack outer)
 as_state (states.NextLocal kind outer) = machine.NextLocal (as_qualifier kind) (as_stack outer)
 as_state (states.LocalNamed kind place target outer) = machine.LocalNamed (as_qualifier kind) place target (as_stack outer)
+as_state (states.InStatic part outer) = machine.InStatic (as_static_part part) (as_stack outer)
 as_state (states.Ended outer statement) = machine.Ended (as_stack outer) (front statement Done)
 as_state (states.Wants fs purpose) = machine.Wants (as_frames fs.items) (as_purpose purpose)
 as_state (states.Has fs purpose operand) = machine.Has (as_frames fs.items) (as_purpose purpose) (term operand)

@@ -22,6 +22,8 @@ mod sections;
 mod stacks;
 mod statements;
 mod states;
+mod static_variables;
+mod statics;
 mod steps;
 mod unfinished;
 pub mod unread;

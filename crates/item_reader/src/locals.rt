@@ -21,7 +21,7 @@ use fam_outer::{NoMemory, Place};
 use std::alloc::Global;
 
 /// What is open, where it is a list, in which alone a declaration stands.
-fn in_list(outer: Stack) -> Option<Stack>
+pub(crate) fn in_list(outer: Stack) -> Option<Stack>
     ensures same { IfSome result (λ list. as_stack list ≡ as_stack outer) }
     ensures list { (next : machine.ReadingState) → option_map (λ list. next) result
         ≡ machine.in_list (as_stack outer) next }

@@ -5,9 +5,11 @@ ghost use Rattle.std.specs.Prelude.{◌≡◌, IfOk};
 ghost use Rattle.c_tree.specs.View.{whole};
 ghost use Rattle.c_grammar.specs.Grammar as grammar;
 ghost use Rattle.c_grammar.specs.Grammar.{whole_of, zeros};
+ghost use Rattle.item_reader.specs.Taking.{AreUnsigned};
 ghost use Rattle.item_reader.specs.Views.{as_file};
 
 use crate::states::File;
+use crate::static_variables::held_of;
 use c_grammar::{Item, Sign};
 use c_tree::{Declarations, Names, Program, start_values};
 use fam_outer::{NoMemory, Values};
@@ -48,6 +50,7 @@ pub(crate) fn program_of(
     items: &[Item],
     file: File,
 ) -> Result<Program, NoMemory>
+    requires { AreUnsigned items.now }
     ensures { IfOk result (λ p. whole p ≡ whole_of names items.now (as_file file)) }
 {
     let File {
@@ -56,6 +59,7 @@ pub(crate) fn program_of(
         end,
     } = file;
     let zeros = zeros_of(alloc, &names)?;
+    let declared = held_of(alloc, declared, items)?;
     let (start, declared) = if has_groups(items) {
         (Values::from_vec(zeros), declared)
     } else {

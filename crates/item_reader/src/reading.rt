@@ -21,10 +21,11 @@ use std::alloc::Global;
 ///
 /// An item is a token or a group directive (`#if`, `#elif`, `#else`, `#endif`) of a C file, and the grammar is that of
 /// `c_grammar`: declarations of `int` variables and of functions outside, which may stand in groups, and then `main`
-/// (ISO/IEC 9899:2011, 6.5 to 6.10.1). Without groups the program is plain, and a variable starts with the value of its
-/// last declarator outside, else with 0. With groups each group of statements is a `Cond`, and each declarator outside is
-/// kept with the guards of the groups around it. A declarator in `main` is a statement: it assigns its initialiser, and
-/// without one any value, as that of an input is.
+/// (ISO/IEC 9899:2011, 6.5 to 6.10.1). A static declarator in `main` stands behind those outside, and leaves no statement.
+/// Without groups the program is plain, and a variable starts with the value of the last of these declarators that is its
+/// own, else with 0. With groups each group of statements is a `Cond`, and each of these declarators is kept with the guards
+/// of the groups around it. Any other declarator in `main` is a statement: it assigns its initialiser, and without one any
+/// value, as that of an input is.
 /// A `for` is what it does before its first test, if anything, and then a loop with its test and its step; the loop has the
 /// place of the test, and a test that is left out is 1, at the semicolon.
 ///

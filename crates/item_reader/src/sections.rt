@@ -3,6 +3,7 @@
 
 ghost use Rattle.std.specs.Prelude.{◌≡◌, IfOk, option_map};
 ghost use Rattle.c_grammar.specs.Grammar as grammar;
+ghost use Rattle.c_grammar.specs.Groups as groups;
 ghost use Rattle.c_grammar.specs.Machine as machine;
 ghost use Rattle.c_grammar.specs.declared.items.Sign.TheVariants as signs;
 ghost use Rattle.item_reader.specs.Views.{as_sections, as_state, Moves};
@@ -50,6 +51,115 @@ pub(crate) fn guards_of(alloc: Global, sections: &Sections) -> Result<Vec<Guard>
     }
 }
 
+/// The first part of a group that opens.
+fn in_group(alloc: Global, number: u32, sections: Sections) -> Result<Sections, NoMemory>
+    ensures { IfOk result (λ made. as_sections made
+        ≡ machine.InPart (machine.guards_of (as_sections sections)) number (as_sections sections)) }
+{
+    let guards = guards_of(alloc, &sections)?;
+    let outer = Box::new(alloc, sections)?;
+    Ok(Sections::InPart {
+        guards,
+        number,
+        outer,
+    })
+}
+
+/// The part behind one with these guards and this condition, with a condition of its own.
+fn in_part_behind(
+    guards: Vec<Guard>,
+    number: u32,
+    outer: Box<Sections>,
+    next: u32,
+) -> Result<Sections, NoMemory>
+    ensures { IfOk result (λ made. as_sections made
+        ≡ machine.InPart (grammar.with_false guards.items number) next (as_sections outer.value)) }
+{
+    let guards = with_false(guards, number)?;
+    Ok(Sections::InPart {
+        guards,
+        number: next,
+        outer,
+    })
+}
+
+/// The last part, behind one with these guards and this condition.
+fn in_last_behind(
+    guards: Vec<Guard>,
+    number: u32,
+    outer: Box<Sections>,
+) -> Result<Sections, NoMemory>
+    ensures { IfOk result (λ made. as_sections made
+        ≡ machine.InLast (grammar.with_false guards.items number) (as_sections outer.value)) }
+{
+    let guards = with_false(guards, number)?;
+    Ok(Sections::InLast { guards, outer })
+}
+
+/// The next part of the innermost group, where another part may come.
+fn in_next_part(next: u32, sections: Sections) -> Result<Sections, NoMemory>
+    ensures { IfOk result (λ made. as_sections made ≡ groups.in_next_part next (as_sections sections)) }
+{
+    match sections {
+        Sections::InPart {
+            guards,
+            number,
+            outer,
+        } => in_part_behind(guards, number, outer, next),
+        other => Ok(other),
+    }
+}
+
+/// Its last part.
+fn in_last_part(sections: Sections) -> Result<Sections, NoMemory>
+    ensures { IfOk result (λ made. as_sections made ≡ groups.in_last_part (as_sections sections)) }
+{
+    match sections {
+        Sections::InPart {
+            guards,
+            number,
+            outer,
+        } => in_last_behind(guards, number, outer),
+        other => Ok(other),
+    }
+}
+
+/// What is around it.
+fn left_group(sections: Sections) -> Sections
+    ensures { as_sections result ≡ groups.left_group (as_sections sections) }
+{
+    let outer = match sections {
+        Sections::Outermost => return Sections::Outermost,
+        Sections::InPart {
+            guards: _guards,
+            number: _number,
+            outer,
+        } => outer,
+        Sections::InLast {
+            guards: _guards,
+            outer,
+        } => outer,
+    };
+    Box::into_inner(outer)
+}
+
+/// The groups around what comes behind a sign.
+pub(crate) fn groups_behind(
+    alloc: Global,
+    sections: Sections,
+    sign: Sign,
+) -> Result<Sections, NoMemory>
+    ensures { IfOk result (λ made. as_sections made ≡ groups.groups_behind (as_sections sections) sign) }
+{
+    match sign {
+        Sign::GroupIf(number) => in_group(alloc, number, sections),
+        Sign::GroupElif(number) => in_next_part(number, sections),
+        Sign::GroupElse => in_last_part(sections),
+        Sign::GroupEnd => Ok(left_group(sections)),
+        _ => Ok(sections),
+    }
+}
+
 /// A section opens.
 fn section_start(
     alloc: Global,
@@ -59,13 +169,7 @@ fn section_start(
 ) -> Result<Option<ReadingState>, NoMemory>
     ensures { Moves result (machine.outside (as_sections sections) declared.items (signs.GroupIf number)) }
 {
-    let guards = guards_of(alloc, &sections)?;
-    let outer = Box::new(alloc, sections)?;
-    let sections = Sections::InPart {
-        guards,
-        number,
-        outer,
-    };
+    let sections = in_group(alloc, number, sections)?;
     Ok(Some(ReadingState::Outside { sections, declared }))
 }
 
@@ -83,12 +187,7 @@ fn next_condition(
             number,
             outer,
         } => {
-            let guards = with_false(guards, number)?;
-            let sections = Sections::InPart {
-                guards,
-                number: next,
-                outer,
-            };
+            let sections = in_part_behind(guards, number, outer, next)?;
             Ok(Some(ReadingState::Outside { sections, declared }))
         }
         _other => Ok(None),
@@ -108,8 +207,7 @@ fn last_section(
             number,
             outer,
         } => {
-            let guards = with_false(guards, number)?;
-            let sections = Sections::InLast { guards, outer };
+            let sections = in_last_behind(guards, number, outer)?;
             Ok(Some(ReadingState::Outside { sections, declared }))
         }
         _other => Ok(None),
@@ -120,22 +218,13 @@ fn last_section(
 fn section_end(sections: Sections, declared: Vec<Declared>) -> Option<ReadingState>
     ensures { option_map as_state result ≡ machine.section_end (as_sections sections) declared.items }
 {
-    let outer = match sections {
-        Sections::Outermost => return None,
-        Sections::InPart {
-            guards: _guards,
-            number: _number,
-            outer,
-        } => outer,
-        Sections::InLast {
-            guards: _guards,
-            outer,
-        } => outer,
-    };
-    Some(ReadingState::Outside {
-        sections: Box::into_inner(outer),
-        declared,
-    })
+    match sections {
+        Sections::Outermost => None,
+        inner => {
+            let sections = left_group(inner);
+            Some(ReadingState::Outside { sections, declared })
+        }
+    }
 }
 
 /// Where a declaration may begin.

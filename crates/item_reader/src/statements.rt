@@ -15,6 +15,7 @@ use crate::lists::block;
 use crate::locals::{const_in, type_in};
 use crate::stacks::{else_of, folded};
 use crate::states::{File, ReadingState};
+use crate::statics::static_in;
 use crate::unfinished::{Pending, Purpose, Site, Stack};
 use crate::words::{Count, TypeWords, Update};
 use c_grammar::Sign;
@@ -117,6 +118,7 @@ pub(crate) fn begin(
             target,
             site: Site::AsStatement { outer },
         })),
+        Sign::Static => Ok(static_in(outer)),
         Sign::Const => Ok(const_in(outer)),
         Sign::Int => Ok(type_in(outer, TypeWords::OneInt)),
         Sign::Int32 => Ok(type_in(outer, TypeWords::WholeType)),

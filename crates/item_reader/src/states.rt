@@ -2,7 +2,7 @@
 #![tactic(auto)]
 
 use crate::unfinished::{Frame, Pending, Purpose, Site, Stack};
-use crate::words::{Count, Leading, Qualifier, TypeWords};
+use crate::words::{Count, Leading, Qualifier, StaticPart, TypeWords};
 use c_tree::{Declared, Expr, Guard, Stmt};
 use fam_outer::Place;
 
@@ -197,6 +197,11 @@ pub(crate) enum ReadingState {
         kind: Qualifier,
         place: Place,
         target: u32,
+        outer: Stack,
+    },
+    /// In a static declaration in `main`, which leaves no statement.
+    InStatic {
+        part: StaticPart,
         outer: Stack,
     },
     /// A statement has ended, and an `else` may come.

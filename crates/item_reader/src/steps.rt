@@ -24,6 +24,7 @@ use crate::parameters::{after_parameters, in_parameters};
 use crate::sections::outside;
 use crate::statements::{begin, counting, named, on};
 use crate::states::ReadingState;
+use crate::statics::static_step;
 use crate::unfinished::{Pending, Site, Stack};
 use crate::words::Leading;
 use c_grammar::Sign;
@@ -215,6 +216,7 @@ fn step_local(
             target,
             outer,
         } => local_named(alloc, kind, place, target, outer, sign),
+        ReadingState::InStatic { part, outer } => Ok(static_step(part, outer, sign)),
         other => step_operand(alloc, other, place, sign),
     }
 }

@@ -51,3 +51,17 @@ pub(crate) enum TypeWords {
     OneSigned,
     WholeType,
 }
+
+/// What of a static declaration in `main` is read: `static`; `const` behind it; words of its type; what stands before a name;
+/// a name; `=`; `-`; and a number.
+#[derive(Clone, Copy, Drop)]
+pub(crate) enum StaticPart {
+    BehindStatic,
+    BehindStaticConst,
+    BehindStaticType { kind: Qualifier, words: TypeWords },
+    BeforeStaticName(Qualifier),
+    BehindStaticName(Qualifier),
+    BehindStaticEquals(Qualifier),
+    BehindStaticMinus(Qualifier),
+    BehindStaticNumber(Qualifier),
+}

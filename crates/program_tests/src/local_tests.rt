@@ -269,11 +269,6 @@ fn declarations_are_refused(rt: HostRuntime) -> Result<(), Fail> {
         ),
         (
             "plain f",
-            "int main(void) {\nstatic int s;\n}\n",
-            "file: F12 at 2:1\n",
-        ),
-        (
-            "plain f",
             "int x;\nint main(void) {\nx = 1, x = 2;\n}\n",
             "file: F12 at 3:6\n",
         ),
@@ -281,6 +276,155 @@ fn declarations_are_refused(rt: HostRuntime) -> Result<(), Fail> {
             "plain f",
             "int main(void){\nint v0;\nint v1;\nint v2;\nint v3;\nint v4;\nint v5;\nint v6;\nint v7;\nint v8;\nint v9;\nint v10;\nint v11;\nint v12;\nint v13;\nint v14;\nint v15;\nint v16;\n}\n",
             "file: F17 at 18:5\n",
+        ),
+    ];
+    for (line, file, told) in rows {
+        let contents = two_files(MODEL, file.as_bytes());
+        compares(rt.alloc(), line, &contents, (4, b"", told.as_bytes()))?;
+    }
+    Ok(())
+}
+
+/// A static variable of `main` has its value from the start, so that its declaration is no statement, and keeps what it is given when its
+/// block is entered again.
+#[test]
+fn static_variables_have_their_values(rt: HostRuntime) -> Result<(), Fail> {
+    let rows = [
+        (
+            "run m f",
+            "int main(void){\nstatic int a=-5,b;\nb=a;\n}\n",
+            "ended a=-5 b=-5\n",
+        ),
+        (
+            "run m f --steps=0",
+            "int main(void)\n{\nstatic int a = 0x10;\na = 2;\n}\n",
+            "at 4:1 a=16\n",
+        ),
+        (
+            "run m f",
+            "int main(void)\n{\nint i = 0;\nwhile (i < 3) {\nstatic int n = 10;\nn++;\ni++;\n}\n}\n",
+            "ended i=3 n=13\n",
+        ),
+        // with `const`, behind the variables before `main` and before the constants
+        (
+            "run m f",
+            "enum { J = 1 };\nint x;\nint main(void){\nstatic int const k=-3;\nx=k+J;\n}\n",
+            "ended x=-2 k=-3 J=1\n",
+        ),
+        (
+            "invariants m f",
+            "int main(void) {\nstatic int a = 4;\n;\n}\n",
+            "3:1: if 1: a in [4,4]\n4:1: if 1: a in [4,4]\nalarms: 0\n",
+        ),
+        (
+            "analyse m f",
+            "int main(void) {\nwhile (1) {\nstatic int n;\nassert(n < 2);\nn = 1;\n}\n}\n",
+            "alarms: 0\n",
+        ),
+        // in groups
+        (
+            "analyse m f",
+            "int main(void) {\n#ifdef A\nstatic int a = 1;\n#else\nstatic int a = 2;\n#endif\nassert(a == 1);\n}\n",
+            "7:1: assertion if !A; example A=0\nalarms: 1\n",
+        ),
+        // static in one variant, and another variable in the others
+        (
+            "analyse m f",
+            "int main(void) {\n#ifdef A\n{\nstatic int s = 3;\nassert(s == 3);\n}\n#else\n{\nint s = 5;\nassert(s == 5);\n}\n#endif\n}\n",
+            "alarms: 0\n",
+        ),
+        (
+            "project m f A",
+            "int main(void) {\n#ifdef A\nstatic int a = 1, b;\n#endif\n}\n",
+            "int main(void) {\n\nstatic int a = 1, b;\n\n}\n",
+        ),
+    ];
+    for (line, file, output) in rows {
+        let contents = two_files(MODEL, file.as_bytes());
+        let status = if output.ends_with("alarms: 1\n") {
+            1
+        } else {
+            0
+        };
+        compares(
+            rt.alloc(),
+            line,
+            &contents,
+            (status, output.as_bytes(), b""),
+        )?;
+    }
+    Ok(())
+}
+
+/// F12 of forms, F13 behind its block, F14 of another variable of its name in `main`, F17 of the 17th, F23 of a constant.
+#[test]
+fn static_variables_are_refused(rt: HostRuntime) -> Result<(), Fail> {
+    let rows = [
+        (
+            "plain f",
+            "int main(void){\n{\nstatic int s;\n}{\nint s=5;\n}}\n",
+            "file: F14 at 5:5\n",
+        ),
+        (
+            "plain f",
+            "int main(void) {\n{\nint s = 1;\n}\n{\nstatic int s;\n}\n}\n",
+            "file: F14 at 6:12\n",
+        ),
+        (
+            "plain f",
+            "int main(void) {\n{\nstatic int s;\n}\n{\nint t, u;\nstatic const int v = 1, s = 2;\n}\n}\n",
+            "file: F14 at 7:25\n",
+        ),
+        (
+            "analyse m f",
+            "int main(void) {\n{\nstatic int s;\n}\n#ifdef A\n{\nint s = 5;\n}\n#endif\n}\n",
+            "file: F14 at 7:5; example A=1\n",
+        ),
+        (
+            "plain f",
+            "int s;\nint main(void) {\nstatic int s;\n}\n",
+            "file: F14 at 3:12\n",
+        ),
+        (
+            "plain f",
+            "int main(void) {\n{\nstatic int s;\n}\ns = 1;\n}\n",
+            "file: F13 at 5:1\n",
+        ),
+        (
+            "plain f",
+            "int main(void) {\nstatic const int k = 2;\nk = 3;\n}\n",
+            "file: F23 at 3:1\n",
+        ),
+        (
+            "plain f",
+            "int main(void) {\nstatic int a,b,c,d,e,f,g,h,i,j,k,l,m,n,o,p,q;\n}\n",
+            "file: F17 at 2:44\n",
+        ),
+        // it stands in a list; its value is a number, and a constant has one
+        (
+            "plain f",
+            "int main(void) {\nif (1) static int s;\n}\n",
+            "file: F12 at 2:8\n",
+        ),
+        (
+            "plain f",
+            "int x;\nint main(void) {\nstatic int s = x;\n}\n",
+            "file: F12 at 3:16\n",
+        ),
+        (
+            "plain f",
+            "int main(void) {\nstatic int s = 1 + 1;\n}\n",
+            "file: F12 at 2:18\n",
+        ),
+        (
+            "plain f",
+            "int main(void) {\nstatic const int k;\n}\n",
+            "file: F12 at 2:19\n",
+        ),
+        (
+            "plain f",
+            "int main(void) {\nconst static int k = 2;\n}\n",
+            "file: F12 at 2:7\n",
         ),
     ];
     for (line, file, told) in rows {

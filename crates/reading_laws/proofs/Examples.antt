@@ -16,7 +16,7 @@ use Rattle.c_grammar.specs.Functions.{is_void, is_equals, stands_behind}
 use Rattle.c_grammar.specs.Locals.{is_in_own}
 use Rattle.family_names.specs.Functions.{functions_at, callable_by, callable_at}
 use Rattle.family_names.specs.Names as family
-use Rattle.family_names.specs.Names.{NameContext, has_main, declared_by, in_scope_at, is_among, is_kept, is_used_behind, is_missed, is_met_again, is_met_unlike, is_uncallable, is_feature, new_name_fault, function_fault, code_with, IsWithFirst, IsEither, IsNameFault, IsChangeOf, IsChangeFault, IsChangeOr, changed_place, IsFaultFrom, IsThisOr, IsUseFault, IsDeclarationFault, IsCallFault, IsPrototypeFault, IsFirstNameFault}
+use Rattle.family_names.specs.Names.{NameContext, has_main, declared_by, in_scope_at, taken_at, is_among, is_kept, is_used_behind, is_missed, is_met_again, is_met_unlike, is_uncallable, is_feature, new_name_fault, function_fault, code_with, IsWithFirst, IsEither, IsNameFault, IsChangeOf, IsChangeFault, IsChangeOr, changed_place, IsFaultFrom, IsThisOr, IsUseFault, IsDeclarationFault, IsCallFault, IsPrototypeFault, IsFirstNameFault}
 use Rattle.c_parser.proofs.FewNames.{later_of}
 use Rattle.reading_laws.proofs.OtherFaults.{some_code, not_of_value, not_of_function, not_new}
 
@@ -101,12 +101,17 @@ abbrev pub is_there : Bool → Bool → Bool → Bool
 is_there true own declared = not own && declared
 is_there false own declared = declared
 
--- the item is a name, which is used where no declaration of it that stays is in scope, or declared again where one is
+-- the names that are in scope behind these items, or those that may not be declared there
+abbrev pub names_for : Bool → List Bool → List Item → List ℕ
+names_for true truths front = in_scope_at truths front
+names_for false truths front = taken_at truths front
+
+-- the item is a name, which is used where no declaration of it that stays is in scope, or declared again where it is taken
 pub record IsNameMissed (context : NameContext) (front : List Item) (sign : Sign) (values : List ℤ) (missed : Bool) : Type 0 where
   pub name : ℕ
   pub sign_is : sign ≡ signs.Name name
   pub use_is : is_used_behind front ≡ missed
-  pub declared : is_there missed (is_in_own front name) (is_among name (in_scope_at (family.truths_at context values) front)) ≡ not missed
+  pub declared : is_there missed (is_in_own front name) (is_among name (names_for missed (family.truths_at context values) front)) ≡ not missed
   pub free : missed ≡ true → is_feature context name ≡ false
 
 -- the functions that may be called behind these items, or those that are declared otherwise than what comes next
@@ -274,7 +279,7 @@ pub name_again : (context : NameContext) (front : List Item) (s : Sign) (values 
 name_again context front (signs.Name n) values h = elim (is_used_behind front) as (λ b. is_used_behind front ≡ b → IsEither b (IsUseFault context front n (Some (Twice (Some values)))) (IsDeclarationFault context front n (Some (Twice (Some values)))) → IsExample context front (signs.Name n) values false) [
   | true ↦ λ m u. absurd (never_twice context front n values u)
   | false ↦ λ m d. (let w = missed_again context front n values d in
-      let k = both_so (is_kept (family.truths_at context values) front) (is_among n (in_scope_at (family.truths_at context values) front)) w.1 in
+      let k = both_so (is_kept (family.truths_at context values) front) (is_among n (taken_at (family.truths_at context values) front)) w.1 in
       record { valid = w.0; stays = k.0; is = inl (record { name = n; sign_is = refl; use_is = m; declared = k.1; free = λ e. absurd cc }) })
 ] refl h
 name_again context front (signs.Function f) values h = elim (has_main front) as (λ b. has_main front ≡ b → IsEither b (IsCallFault context front f (Some (Twice (Some values)))) (IsPrototypeFault context front f (Some (Twice (Some values)))) → IsExample context front (signs.Function f) values false) [

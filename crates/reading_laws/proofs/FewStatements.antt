@@ -86,6 +86,7 @@ counted (within.choice p n {ts} {us} {vs} {c} {d} {e} {k} s t l) =
     with_three (count_of c) (count_of d) (count_of e) (length (ts ++ (us ++ vs))) (two_lists (count_of c) (count_of d + count_of e) ts (us ++ vs) (counted s) (two_lists (count_of d) (count_of e) us vs (counted t) (counted l)))
 counted (within.local {ts} {us} {vs} {c} {d} {kind} {k} q v l) =
     subst (λ (n : ℕ). n ≤ length (ts ++ (us ++ vs))) (sym (count-followed c d)) (behind_some (count_of c + count_of d) ts (us ++ vs) (two_lists (count_of c) (count_of d) us vs (counted v) (counted l)))
+counted (within.static_local p {ts} {us} {vs} {ds} {c} q v l) = more_of (count_of c) _ (behind_some (count_of c) ts (us ++ vs) (behind_some (count_of c) us vs (counted l)))
 counted (within.last_local p {ts} {c} d) = then_some (count_of c) ts _ (local_counted d)
 counted (within.next_local p {ts} {us} {c} {d} {kind} {k} e v) =
     subst (λ (n : ℕ). n ≤ length (ts ++ at p signs.Comma ∷ us)) (sym (count-followed c d)) (two_lists (count_of c) (count_of d) ts (at p signs.Comma ∷ us) (local_counted e) (more_of (count_of d) _ (counted v)))

@@ -1,12 +1,13 @@
 -- The constants of pieces of `main` that are in scope behind them, where the conditions have truths, are the targets of those of their
 -- declarators whose guards hold.
-use Rattle.std.proofs.Common.{◌≡◌, ℕ, Bool, true, false, List, [], ◌∷◌, ◌++◌, refl, sym, ap, ◌∙◌, append_assoc}
+use Rattle.std.proofs.Common.{◌≡◌, ℕ, ℤ, Bool, true, false, List, [], ◌∷◌, ◌++◌, refl, sym, ap, ◌∙◌, append_assoc}
 use Rattle.fam_outer.specs.declared.faults.Place.{Place}
 use Rattle.cpp_groups.specs.declared.section.Section.{Section}
 use Rattle.cpp_groups.specs.declared.section.Section.TheVariants.{Seeking}
 use Rattle.cpp_groups.specs.Kept.{truth, next_group, all_kept}
 use Rattle.c_tree.specs.declared.lists.Guard.{Guard}
 use Rattle.c_tree.specs.declared.lists.Declared.{Declared}
+use Rattle.c_tree.specs.declared.tree.Op.TheVariants.{Sub}
 use Rattle.c_tree.specs.Tree.{Term, Code}
 use Rattle.c_tree.specs.Project.{guards_hold}
 use Rattle.c_grammar.specs.declared.constants.NameKind.TheVariants as kinds
@@ -14,7 +15,9 @@ use Rattle.c_grammar.specs.declared.items.Item.{Item}
 use Rattle.c_grammar.specs.declared.items.Sign.{Sign}
 use Rattle.c_grammar.specs.declared.items.Sign.TheVariants as signs
 use Rattle.c_grammar.specs.Constants.{constants_from}
-use Rattle.c_grammar.specs.Grammar.{at, Prefix, Positive, Negative, Inverse, prefix_sign, Expresses, number, name, group, prefix, loose, binary, Callable, of_input, of_function, Qualifier, Unqualified, Constant, Counted, LocalDeclarator, uninitialised, initialised, from_call, Writes, Locals, last_local, next_local}
+use Rattle.c_grammar.specs.Grammar.{at, Prefix, Positive, Negative, Inverse, prefix_sign, Expresses, number, name, group, prefix, loose, binary, Callable, of_input, of_function, Qualifier, Unqualified, Constant, Counted, LocalDeclarator, uninitialised, initialised, from_call, Writes, Locals, last_local, next_local, Declarator, bare, positive, negative, variables_end, Vars, Declares, last_var, next_var}
+use Rattle.c_grammar.specs.Ahead.{IsHeld}
+use Rattle.c_grammar.specs.Groups.{guarded_by}
 use Rattle.c_grammar.specs.Locals.{declarations_from}
 use Rattle.c_grammar.specs.LocalsOf.{locals_in, of_kind}
 use Rattle.c_grammar.specs.Scopes.{are_open, is_open_behind, scoped_from}
@@ -22,10 +25,10 @@ use Rattle.c_grammar.proofs.Guards.{seeks, else_matches, in_true, in_false}
 use Rattle.c_parser.specs.Names.{targets}
 use Rattle.c_parser.proofs.Stretches.{is_calm, are_calm, calm_parts, expression_calm, function_calm}
 use Rattle.reading_laws.specs.Declaring.{holding}
-use Rattle.reading_laws.proofs.InnerNames.{kept_here, if_open, none_open, both_open, qualified_kept, locals_first}
-use Rattle.reading_laws.proofs.OuterConstants.{kind_of, qualified_all}
+use Rattle.reading_laws.proofs.InnerNames.{kept_here, if_open, none_open, both_open, qualified_kept, locals_first, typed_held, statics_first}
+use Rattle.reading_laws.proofs.OuterConstants.{kind_of, qualified_all, constants_all}
 use Rattle.reading_laws.proofs.OuterNames.{silent_first}
-use Rattle.reading_laws.proofs.Pieces.{Piece, calm, enclosed, both, declarators, groups, end_group, else_group, elif_group}
+use Rattle.reading_laws.proofs.Pieces.{Piece, calm, enclosed, both, declarators, statics, groups, end_group, else_group, elif_group}
 use Rattle.reading_laws.proofs.Scoping.{open_constants}
 
 -- the constants of `main` from here on that are in scope behind them, behind a sign that a declarator stands behind or not
@@ -85,6 +88,23 @@ variables_left t secs w (next_local p {ts} {us} d v) =
     let one = variable_left t secs d in
     ap (constants_here t secs true) (append_assoc ts (at p signs.Comma ∷ us) w) ∙ one.1 (at p signs.Comma ∷ (us ++ w)) ∙ comma_first t secs one.0 p (us ++ w) ∙ variables_left t secs w v
 
+-- so is that of a static one
+static_left : {ts : List Item} {x : ℕ} {n : ℤ} (t : List Bool) (secs : List Section) → Declarator Unqualified ts x n → (declaring : Bool) × ((w : List Item) → constants_here t secs true (ts ++ w) ≡ constants_here t secs declaring w)
+static_left t secs (bare p x) = (true, λ w. refl)
+static_left t secs (positive p q r x n) = (false, λ w. equals_first t secs q (at r (signs.Number n) ∷ w) ∙ calm_kept t secs (at r (signs.Number n) ∷ []) w refl)
+static_left t secs (negative p q r s x n) = (
+  false,
+  λ w. equals_first t secs q (at r (signs.Oper Sub) ∷ at s (signs.Number n) ∷ w) ∙ calm_kept t secs (at r (signs.Oper Sub) ∷ at s (signs.Number n) ∷ []) w refl,
+)
+
+statics_left : {us : List Item} {ds : List Declared} {inner : List Guard} (t : List Bool) (secs : List Section) (w : List Item) → Declares (Vars Unqualified inner) us ds → constants_here t secs true (us ++ w) ≡ constants_here t secs false w
+statics_left t secs w (last_var inner {us} d (variables_end p)) =
+    let one = static_left t secs d in
+    ap (constants_here t secs true) (append_assoc us (at p signs.Semicolon ∷ []) w) ∙ one.1 (at p signs.Semicolon ∷ w) ∙ semicolon_first t secs one.0 p w
+statics_left t secs w (next_var p inner {us} {vs} d v) =
+    let one = static_left t secs d in
+    ap (constants_here t secs true) (append_assoc us (at p signs.Comma ∷ vs) w) ∙ one.1 (at p signs.Comma ∷ (vs ++ w)) ∙ comma_first t secs one.0 p (vs ++ w) ∙ statics_left t secs w v
+
 -- ---- declarations of constants: no item is left out
 
 prefix_stays : (u : Prefix) (p : Place) (w ws : List Item) → constants_from kinds.Constant w ≡ ws → constants_from kinds.Constant (at p (prefix_sign u) ∷ w) ≡ at p (prefix_sign u) ∷ ws
@@ -129,6 +149,12 @@ locals_hold t Unqualified gs secs h w o k v = variables_left t secs w v ∙ none
 locals_hold t Constant gs secs h w o k v = ap (kept_here t secs true) (locals_stay w v) ∙ locals_first t gs secs h (constants_from kinds.Variable w) o (open_constants kinds.Variable w ∙ k) v
 locals_hold t (Counted last) gs secs h w o k v = ap (kept_here t secs true) (locals_stay w v) ∙ locals_first t gs secs h (constants_from kinds.Variable w) o (open_constants kinds.Variable w ∙ k) v
 
+statics_hold : {us : List Item} {ds : List Declared} {inner : List Guard} (t : List Bool) (kind : Qualifier) (gs : List Guard) (secs : List Section) → guards_hold t gs ≡ all_kept secs → (w : List Item) (o : Bool) → is_open_behind 0 w ≡ o → IsHeld kind
+    → Declares (Vars kind inner) us ds → kept_here t secs true (constants_from (kind_of kind) (us ++ w)) ≡ if_open o (targets (holding t (of_kind kind (guarded_by gs ds)))) ++ constants_here t secs false w
+statics_hold t Unqualified gs secs h w o k held v = statics_left t secs w v ∙ none_open o (constants_here t secs false w)
+statics_hold t Constant gs secs h w o k held v = ap (kept_here t secs true) (constants_all w v) ∙ statics_first t gs secs h (constants_from kinds.Variable w) o (open_constants kinds.Variable w ∙ k) held v
+statics_hold t (Counted last) gs secs h w o k held v = absurd held
+
 abbrev PieceHolds : List Bool → Bool → List Guard → List Item → List Declared → Type 0
 PieceHolds t false gs ts cs = (secs : List Section) → guards_hold t gs ≡ all_kept secs → (w : List Item) (o : Bool) → is_open_behind 0 w ≡ o → constants_here t secs false (ts ++ w) ≡ if_open o (targets (holding t cs)) ++ constants_here t secs false w
 PieceHolds t true gs ts cs = (sec : Section) (secs : List Section) → guards_hold t gs ≡ seeks sec secs → (w : List Item) (o : Bool) → is_open_behind 0 w ≡ o → constants_here t (sec ∷ secs) false (ts ++ w) ≡ if_open o (targets (holding t cs)) ++ constants_here t secs false w
@@ -148,6 +174,12 @@ constants_of_piece t (declarators gs {ts} {us} {vs} {c} {kind} {es} {bs} q v x s
     ∙ qualified_kept t secs (constants_from (kind_of kind) (us ++ (vs ++ w))) q ∙ locals_hold t kind gs secs h (vs ++ w) o (ap (are_open 0) (x 0 w) ∙ k) v
     ∙ ap (λ (ns : List ℕ). if_open o (targets (holding t (of_kind kind (locals_in gs v)))) ++ ns) (constants_of_piece t s secs h w o k)
     ∙ both_open t o (of_kind kind (locals_in gs v)) bs (constants_here t secs false w)
+constants_of_piece t (statics gs {ts} {us} {vs} {ds} {es} {bs} {kind} q v x s) = λ secs h w o k.
+    let re : (ts ++ (us ++ vs)) ++ w ≡ ts ++ (us ++ (vs ++ w)) = simp append_assoc in
+    ap (constants_here t secs false) re ∙ ap (kept_here t secs false) (qualified_all (us ++ (vs ++ w)) q)
+    ∙ qualified_kept t secs (constants_from (kind_of kind) (us ++ (vs ++ w))) q ∙ statics_hold t kind gs secs h (vs ++ w) o (ap (are_open 0) (x 0 w) ∙ k) (typed_held q) v
+    ∙ ap (λ (ns : List ℕ). if_open o (targets (holding t (of_kind kind (guarded_by gs ds)))) ++ ns) (constants_of_piece t s secs h w o k)
+    ∙ both_open t o (of_kind kind (guarded_by gs ds)) bs (constants_here t secs false w)
 constants_of_piece t (groups gs p n {ts} {us} {vs} {ds} {es} {fs} {cs} {bs} {ys} a u b v l) = λ secs h w o k.
     let inner = next_group Seeking (truth t n) in
     let re : (ts ++ (us ++ vs)) ++ w ≡ ts ++ (us ++ (vs ++ w)) = simp append_assoc in

@@ -1,6 +1,6 @@
 -- The names of pieces of `main` that are in scope behind them, where the conditions have truths, are the targets of declarators whose guards
 -- hold.
-use Rattle.std.proofs.Common.{◌≡◌, ℕ, pos, Bool, true, false, not, ◌&&◌, cond, List, [], ◌∷◌, ◌++◌, Option, Some, None, refl, sym, ap, ◌∙◌, append_assoc}
+use Rattle.std.proofs.Common.{◌≡◌, ℕ, ℤ, pos, Bool, true, false, not, ◌&&◌, cond, List, [], ◌∷◌, ◌++◌, Option, Some, None, refl, sym, ap, ◌∙◌, append_assoc}
 use Rattle.std.specs.Prelude.{if◌then◌else◌}
 use Rattle.fam_outer.specs.declared.faults.Place.{Place}
 use Rattle.cpp_groups.specs.declared.section.Section.{Section}
@@ -8,13 +8,16 @@ use Rattle.cpp_groups.specs.declared.section.Section.TheVariants.{Seeking}
 use Rattle.cpp_groups.specs.Kept.{truth, next_group, all_kept}
 use Rattle.c_tree.specs.declared.lists.Guard.{Guard}
 use Rattle.c_tree.specs.declared.lists.Declared.{Declared}
+use Rattle.c_tree.specs.declared.tree.Op.TheVariants.{Sub}
 use Rattle.c_tree.specs.Tree.{Code}
 use Rattle.c_tree.specs.Project.{guards_hold}
 use Rattle.c_grammar.specs.declared.items.Item.{Item}
 use Rattle.c_grammar.specs.declared.items.Sign.{Sign}
 use Rattle.c_grammar.specs.declared.items.Sign.TheVariants as signs
 use Rattle.c_grammar.specs.Constants.{is_name}
-use Rattle.c_grammar.specs.Grammar.{at, Typed, int, int32, signed, signed_int, int_signed, Qualifier, Qualified, unqualified, const_before, const_behind, LocalDeclarator, uninitialised, initialised, from_call, Writes, Locals, last_local, next_local, declared}
+use Rattle.c_grammar.specs.Grammar.{at, Typed, int, int32, signed, signed_int, int_signed, Qualifier, Qualified, unqualified, const_before, const_behind, LocalDeclarator, uninitialised, initialised, from_call, Writes, Locals, last_local, next_local, Declarator, bare, positive, negative, counted, Ending, variables_end, constants_end, enumeration_end, comma_end, Unqualified, Constant, Counted, behind, Vars, Declares, last_var, next_var, declared}
+use Rattle.c_grammar.specs.Ahead.{IsHeld}
+use Rattle.c_grammar.specs.Groups.{guarded_by}
 use Rattle.c_grammar.specs.Locals.{declarations_from, name_of}
 use Rattle.c_grammar.specs.LocalsOf.{local_name, locals_in}
 use Rattle.c_grammar.specs.Scopes.{inner_from, are_open, is_open_behind, scoped_from}
@@ -25,7 +28,7 @@ use Rattle.c_parser.specs.Names.{targets}
 use Rattle.c_parser.proofs.Stretches.{is_calm, are_calm, calm_parts, expression_calm, function_calm}
 use Rattle.reading_laws.specs.Declaring.{holding}
 use Rattle.reading_laws.proofs.OuterNames.{standing, IsSilent, silent, silent_first, qualified_silent, name_first, both_held, one_held}
-use Rattle.reading_laws.proofs.Pieces.{Piece, calm, enclosed, both, declarators, groups, end_group, else_group, elif_group}
+use Rattle.reading_laws.proofs.Pieces.{Piece, calm, enclosed, both, declarators, statics, groups, end_group, else_group, elif_group}
 use Rattle.reading_laws.proofs.Scoping.{open_declared}
 
 -- the names of `main` from here on that are in scope behind them, behind a sign that a declarator stands behind or not
@@ -104,10 +107,10 @@ pub both_open : (t : List Bool) (o : Bool) (ds es : List Declared) (ns : List �
 both_open t true ds es ns = both_held t ds es ns
 both_open t false ds es ns = refl
 
-one_open : (t : List Bool) (o : Bool) (x : ℕ) (gs : List Guard) (ds : List Declared) (secs : List Section) (ns : List ℕ) → guards_hold t gs ≡ all_kept secs
-    → if_open o (cond (all_kept secs) (x ∷ []) []) ++ (if_open o (targets (holding t ds)) ++ ns) ≡ if_open o (targets (holding t (declared x (pos 0) gs ∷ ds))) ++ ns
-one_open t true x gs ds secs ns h = one_held t x (pos 0) gs ds secs ns h
-one_open t false x gs ds secs ns h = refl
+one_open : (t : List Bool) (o : Bool) (x : ℕ) (n : ℤ) (gs : List Guard) (ds : List Declared) (secs : List Section) (ns : List ℕ) → guards_hold t gs ≡ all_kept secs
+    → if_open o (cond (all_kept secs) (x ∷ []) []) ++ (if_open o (targets (holding t ds)) ++ ns) ≡ if_open o (targets (holding t (declared x n gs ∷ ds))) ++ ns
+one_open t true x n gs ds secs ns h = one_held t x n gs ds secs ns h
+one_open t false x n gs ds secs ns h = refl
 
 -- a name is in scope behind these items, if its block is not left
 name_scoped : (t : List Bool) (secs : List Section) (p : Place) (x : ℕ) (w : List Item) (o : Bool) → is_open_behind 0 w ≡ o → kept_here t secs true (at p (signs.Name x) ∷ w) ≡ if_open o (cond (all_kept secs) (x ∷ []) []) ++ kept_here t secs false w
@@ -145,11 +148,71 @@ pub locals_first : {us : List Item} {c : Code} {kind : Qualifier} (t : List Bool
 locals_first t gs secs h w o k (last_local p {ts} d) =
     ap (kept_here t secs true) (append_assoc ts (at p signs.Semicolon ∷ []) w) ∙ local_first t secs (at p signs.Semicolon ∷ w) o k d
     ∙ ap (λ (ns : List ℕ). if_open o (cond (all_kept secs) (local_name d ∷ []) []) ++ ns) (calm_kept t secs (at p signs.Semicolon ∷ []) w refl ∙ none_open o (kept_here t secs false w))
-    ∙ one_open t o (local_name d) gs [] secs (kept_here t secs false w) h
+    ∙ one_open t o (local_name d) (pos 0) gs [] secs (kept_here t secs false w) h
 locals_first t gs secs h w o k (next_local p {ts} {us} d v) =
     ap (kept_here t secs true) (append_assoc ts (at p signs.Comma ∷ us) w) ∙ local_first t secs (at p signs.Comma ∷ (us ++ w)) o (ap (are_open 0) (code_balanced v 0 w) ∙ k) d
     ∙ ap (λ (ns : List ℕ). if_open o (cond (all_kept secs) (local_name d ∷ []) []) ++ ns) (silent_first t secs (at p signs.Comma) (scoped_from 0 true (declarations_from true true (us ++ w))) refl refl ∙ locals_first t gs secs h w o k v)
-    ∙ one_open t o (local_name d) gs (locals_in gs v) secs (kept_here t secs false w) h
+    ∙ one_open t o (local_name d) (pos 0) gs (locals_in gs v) secs (kept_here t secs false w) h
+
+-- ---- static variables and constants
+
+-- a type comes before them, so that they are not counted
+pub typed_held : {us : List Item} {kind : Qualifier} → Qualified kind us → IsHeld kind
+typed_held (unqualified y) = tt
+typed_held (const_before p y) = tt
+typed_held (const_behind p y) = tt
+
+held_behind : (kind : Qualifier) (n : ℤ) → IsHeld kind → IsHeld (behind kind n)
+held_behind Unqualified n h = tt
+held_behind Constant n h = tt
+held_behind (Counted last) n h = absurd h
+
+-- they open no block and leave none
+declarator_open : {ts : List Item} {x : ℕ} {n : ℤ} {kind : Qualifier} (w : List Item) → Declarator kind ts x n → is_open_behind 0 (ts ++ w) ≡ is_open_behind 0 w
+declarator_open w (bare p x) = refl
+declarator_open w (positive p q r x n) = refl
+declarator_open w (negative p q r s x n) = refl
+declarator_open w (counted p x last lt) = refl
+
+ending_open : {us : List Item} {kind : Qualifier} (w : List Item) → IsHeld kind → Ending kind us → is_open_behind 0 (us ++ w) ≡ is_open_behind 0 w
+ending_open w h (variables_end p) = refl
+ending_open w h (constants_end p) = refl
+ending_open w h (enumeration_end last p q) = absurd h
+ending_open w h (comma_end last p q r) = absurd h
+
+statics_open : {us : List Item} {ds : List Declared} {kind : Qualifier} {inner : List Guard} (w : List Item) → IsHeld kind → Declares (Vars kind inner) us ds → is_open_behind 0 (us ++ w) ≡ is_open_behind 0 w
+statics_open w h (last_var inner {us} {vs} d o) = ap (is_open_behind 0) (append_assoc us vs w) ∙ declarator_open (vs ++ w) d ∙ ending_open w h o
+statics_open w h (next_var p inner {us} {vs} {x} {n} {ds} {kind} d v) =
+    ap (is_open_behind 0) (append_assoc us (at p signs.Comma ∷ vs) w) ∙ declarator_open (at p signs.Comma ∷ (vs ++ w)) d ∙ statics_open w (held_behind kind n h) v
+
+static_first : {ts : List Item} {x : ℕ} {n : ℤ} {kind : Qualifier} (t : List Bool) (secs : List Section) (w : List Item) (o : Bool) → is_open_behind 0 w ≡ o → Declarator kind ts x n
+    → kept_here t secs true (ts ++ w) ≡ if_open o (cond (all_kept secs) (x ∷ []) []) ++ kept_here t secs false w
+static_first t secs w o h (bare p x) = name_scoped t secs p x w o h
+static_first t secs w o h (counted p x last lt) = name_scoped t secs p x w o h
+static_first t secs w o h (positive p q r x n) =
+    name_scoped t secs p x (at q signs.Equals ∷ at r (signs.Number n) ∷ w) o h
+    ∙ ap (λ (ns : List ℕ). if_open o (cond (all_kept secs) (x ∷ []) []) ++ ns) (calm_kept t secs (at q signs.Equals ∷ at r (signs.Number n) ∷ []) w refl)
+static_first t secs w o h (negative p q r s x n) =
+    name_scoped t secs p x (at q signs.Equals ∷ at r (signs.Oper Sub) ∷ at s (signs.Number n) ∷ w) o h
+    ∙ ap (λ (ns : List ℕ). if_open o (cond (all_kept secs) (x ∷ []) []) ++ ns) (calm_kept t secs (at q signs.Equals ∷ at r (signs.Oper Sub) ∷ at s (signs.Number n) ∷ []) w refl)
+
+ending_kept : {us : List Item} {kind : Qualifier} (t : List Bool) (secs : List Section) (w : List Item) → IsHeld kind → Ending kind us → kept_here t secs false (us ++ w) ≡ kept_here t secs false w
+ending_kept t secs w h (variables_end p) = calm_kept t secs (at p signs.Semicolon ∷ []) w refl
+ending_kept t secs w h (constants_end p) = calm_kept t secs (at p signs.Semicolon ∷ []) w refl
+ending_kept t secs w h (enumeration_end last p q) = absurd h
+ending_kept t secs w h (comma_end last p q r) = absurd h
+
+pub statics_first : {us : List Item} {ds : List Declared} {kind : Qualifier} {inner : List Guard} (t : List Bool) (gs : List Guard) (secs : List Section) → guards_hold t gs ≡ all_kept secs → (w : List Item) (o : Bool) → is_open_behind 0 w ≡ o → IsHeld kind
+    → Declares (Vars kind inner) us ds → kept_here t secs true (us ++ w) ≡ if_open o (targets (holding t (guarded_by gs ds))) ++ kept_here t secs false w
+statics_first t gs secs h w o k held (last_var inner {us} {vs} {x} {n} d e) =
+    ap (kept_here t secs true) (append_assoc us vs w) ∙ static_first t secs (vs ++ w) o (ending_open w held e ∙ k) d
+    ∙ ap (λ (ns : List ℕ). if_open o (cond (all_kept secs) (x ∷ []) []) ++ ns) (ending_kept t secs w held e ∙ none_open o (kept_here t secs false w))
+    ∙ one_open t o x n gs [] secs (kept_here t secs false w) h
+statics_first t gs secs h w o k held (next_var p inner {us} {vs} {x} {n} {ds} {kind} d v) =
+    let later : IsHeld (behind kind n) = held_behind kind n held in
+    ap (kept_here t secs true) (append_assoc us (at p signs.Comma ∷ vs) w) ∙ static_first t secs (at p signs.Comma ∷ (vs ++ w)) o (statics_open w later v ∙ k) d
+    ∙ ap (λ (ns : List ℕ). if_open o (cond (all_kept secs) (x ∷ []) []) ++ ns) (silent_first t secs (at p signs.Comma) (scoped_from 0 true (declarations_from true true (vs ++ w))) refl refl ∙ statics_first t gs secs h w o k later v)
+    ∙ one_open t o x n gs (guarded_by gs ds) secs (kept_here t secs false w) h
 
 -- ---- pieces
 
@@ -170,6 +233,10 @@ piece_holds t (declarators gs {ts} {us} {vs} {c} {kind} {es} q v x s) = λ secs 
     let re : (ts ++ (us ++ vs)) ++ w ≡ ts ++ (us ++ (vs ++ w)) = simp append_assoc in
     ap (kept_here t secs false) re ∙ qualified_kept t secs (us ++ (vs ++ w)) q ∙ locals_first t gs secs h (vs ++ w) o (ap (are_open 0) (x 0 w) ∙ k) v
     ∙ ap (λ (ns : List ℕ). if_open o (targets (holding t (locals_in gs v))) ++ ns) (piece_holds t s secs h w o k) ∙ both_open t o (locals_in gs v) es (kept_here t secs false w)
+piece_holds t (statics gs {ts} {us} {vs} {ds} {es} q v x s) = λ secs h w o k.
+    let re : (ts ++ (us ++ vs)) ++ w ≡ ts ++ (us ++ (vs ++ w)) = simp append_assoc in
+    ap (kept_here t secs false) re ∙ qualified_kept t secs (us ++ (vs ++ w)) q ∙ statics_first t gs secs h (vs ++ w) o (ap (are_open 0) (x 0 w) ∙ k) (typed_held q) v
+    ∙ ap (λ (ns : List ℕ). if_open o (targets (holding t (guarded_by gs ds))) ++ ns) (piece_holds t s secs h w o k) ∙ both_open t o (guarded_by gs ds) es (kept_here t secs false w)
 piece_holds t (groups gs p n {ts} {us} {vs} {ds} {es} {fs} a u b v l) = λ secs h w o k.
     let inner = next_group Seeking (truth t n) in
     let re : (ts ++ (us ++ vs)) ++ w ≡ ts ++ (us ++ (vs ++ w)) = simp append_assoc in

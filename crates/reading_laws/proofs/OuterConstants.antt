@@ -80,7 +80,7 @@ ending_all w (constants_end p) = refl
 ending_all w (enumeration_end last p q) = refl
 ending_all w (comma_end last p q r) = refl
 
-constants_all : {gs : List Guard} {us : List Item} {ds : List Declared} {kind : Qualifier} (w : List Item) → Declares (Vars kind gs) us ds → constants_from kinds.Constant (us ++ w) ≡ us ++ constants_from kinds.Variable w
+pub constants_all : {gs : List Guard} {us : List Item} {ds : List Declared} {kind : Qualifier} (w : List Item) → Declares (Vars kind gs) us ds → constants_from kinds.Constant (us ++ w) ≡ us ++ constants_from kinds.Variable w
 constants_all w (last_var gs {us} {vs} d o) =
     ap (constants_from kinds.Constant) (append_assoc us vs w) ∙ constant_all (vs ++ w) d ∙ ap (λ (y : List Item). us ++ y) (ending_all w o) ∙ sym (append_assoc us vs (constants_from kinds.Variable w))
 constants_all w (next_var p gs {us} {vs} d v) =

@@ -19,7 +19,7 @@ use Rattle.c_grammar.specs.Constants.{last_from}
 use Rattle.c_grammar.specs.Grammar.{is_group}
 use Rattle.c_grammar.specs.Kept.{directive_of, kept_from}
 use Rattle.c_grammar.specs.Locals.{is_in_own, open_behind}
-use Rattle.c_grammar.specs.Scopes.{names_in_scope}
+use Rattle.c_grammar.specs.Scopes.{names_in_scope, names_taken}
 use Rattle.family_names.specs.Names.{NameContext, is_value, is_feature, IsFirstNameFault}
 use Rattle.family_names.proofs.Features.{no_value}
 use Rattle.c_parser.specs.FamilyItems.{is_name, has}
@@ -109,8 +109,9 @@ last_more last (y ∷ ys) x = last_more (Some y) ys x
 same_name : (ns ms : List ℕ) (before : List Item) (s : Sign) → AgreeAt ns ms s → name_fault (uncounted ns) before s ≡ name_fault (uncounted ms) before s
 same_name ns ms before (signs.Name n) h =
     let declared : Bool = list_any (nat_eq n) (names_in_scope before) in
+    let taken : Bool = list_any (nat_eq n) (names_taken before) in
     ap (λ (b : Bool). if is_used_behind before then (if b || (not (is_in_own before n) && declared) then None else some_code (Undeclared None))
-    else (if declared then some_code (Twice None) else (if b then some_code FeatureInCode else limit_fault (uncounted ns) n))) h
+    else (if taken then some_code (Twice None) else (if b then some_code FeatureInCode else limit_fault (uncounted ns) n))) h
 same_name ns ms before _ h = refl
 
 same_constant : (ns ms constants : List ℕ) (change : Option (ℕ × Place)) → AgreeOn ns ms change → constant_fault (ns ++ constants) change ≡ constant_fault (ms ++ constants) change

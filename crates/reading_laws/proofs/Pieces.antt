@@ -6,7 +6,8 @@ use Rattle.c_tree.specs.declared.lists.Declared.{Declared}
 use Rattle.c_tree.specs.Tree.{Code}
 use Rattle.c_grammar.specs.declared.items.Item.{Item}
 use Rattle.c_grammar.specs.declared.items.Sign.TheVariants as signs
-use Rattle.c_grammar.specs.Grammar.{at, Qualifier, Qualified, Shape, Listed, Stated, Chained, Locals, Writes, none, more, choice, local, last_local, next_local, ends, otherwise, elif, change, call, void_call, assert, skip, block, while, for, if_then, if_else, with_true, with_false}
+use Rattle.c_grammar.specs.Grammar.{at, Qualifier, Qualified, Shape, Listed, Stated, Chained, Locals, Writes, none, more, choice, local, static_local, last_local, next_local, ends, otherwise, elif, change, call, void_call, assert, skip, block, while, for, if_then, if_else, with_true, with_false, Vars, Declares}
+use Rattle.c_grammar.specs.Groups.{guarded_by}
 use Rattle.c_grammar.specs.LocalsOf.{locals_in, of_kind, scope_in, constant_scope_in}
 use Rattle.c_grammar.proofs.ScopingBlocks.{IsBalanced, balanced_both, code_balanced}
 use Rattle.c_grammar.proofs.Keeping.{for_head, for_is}
@@ -18,6 +19,7 @@ pub data Piece : (later : Bool) → List Guard → List Item → List Declared �
   enclosed : (gs : List Guard) (p q : Place) {ts : List Item} {ds cs : List Declared} → Piece false gs ts ds cs → Piece false gs (at p signs.LeftBrace ∷ (ts ++ at q signs.RightBrace ∷ [])) [] []
   both : (gs : List Guard) {ts us : List Item} {ds es cs bs : List Declared} → Piece false gs ts ds cs → IsBalanced us → Piece false gs us es bs → Piece false gs (ts ++ us) (ds ++ es) (cs ++ bs)
   declarators : (gs : List Guard) {ts us vs : List Item} {c : Code} {kind : Qualifier} {es bs : List Declared} → Qualified kind ts → (v : Writes (Locals kind) us c) → IsBalanced vs → Piece false gs vs es bs → Piece false gs (ts ++ (us ++ vs)) (locals_in gs v ++ es) (of_kind kind (locals_in gs v) ++ bs)
+  statics : (gs : List Guard) {ts us vs : List Item} {ds es bs : List Declared} {kind : Qualifier} → Qualified kind ts → Declares (Vars kind []) us ds → IsBalanced vs → Piece false gs vs es bs → Piece false gs (ts ++ (us ++ vs)) (guarded_by gs ds ++ es) (of_kind kind (guarded_by gs ds) ++ bs)
   groups : (gs : List Guard) (p : Place) (n : ℕ) {ts us vs : List Item} {ds es fs cs bs ys : List Declared} → Piece false (with_true gs n) ts ds cs → IsBalanced us → Piece true (with_false gs n) us es bs → IsBalanced vs → Piece false gs vs fs ys → Piece false gs (at p (signs.GroupIf n) ∷ (ts ++ (us ++ vs))) (ds ++ (es ++ fs)) (cs ++ (bs ++ ys))
   end_group : (gs : List Guard) (p : Place) → Piece true gs (at p signs.GroupEnd ∷ []) [] []
   else_group : (gs : List Guard) (p q : Place) {ts : List Item} {ds cs : List Declared} → Piece false gs ts ds cs → Piece true gs (at p signs.GroupElse ∷ (ts ++ at q signs.GroupEnd ∷ [])) ds cs
@@ -43,6 +45,7 @@ piece_of gs none = calm gs [] refl
 piece_of gs (more s l) = both gs (piece_of gs s) (code_balanced l) (piece_of gs l)
 piece_of gs (choice p n s t l) = groups gs p n (piece_of (with_true gs n) s) (code_balanced t) (piece_of (with_false gs n) t) (code_balanced l) (piece_of gs l)
 piece_of gs (local q v l) = declarators gs q v (code_balanced l) (piece_of gs l)
+piece_of gs (static_local p q v l) = both gs (calm gs (at p signs.Static ∷ []) refl) (code_balanced (static_local p q v l)) (statics gs q v (code_balanced l) (piece_of gs l))
 piece_of gs (last_local p d) = tt
 piece_of gs (next_local p d v) = tt
 piece_of gs (ends p) = end_group gs p

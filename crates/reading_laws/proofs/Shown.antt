@@ -25,10 +25,10 @@ use Rattle.c_grammar.specs.Constants.{AreApart}
 use Rattle.c_grammar.specs.Grammar.{is_group}
 use Rattle.c_grammar.specs.Kept.{directive_of, kept_from, kept}
 use Rattle.c_grammar.specs.Locals.{is_in_own, is_open, AreOutside as StandOutside}
-use Rattle.c_grammar.specs.Scopes.{names_in_scope, AreLevel}
+use Rattle.c_grammar.specs.Scopes.{names_in_scope, names_taken, AreLevel, AreBeside}
 use Rattle.c_grammar.specs.Within.{SpellsWithin, KeepsWithin, WithinIsFile}
 use Rattle.family_names.specs.Names as family
-use Rattle.family_names.specs.Names.{NameContext, has_main, in_scope_at, is_among, is_kept, is_feature, is_used_behind, sections_behind, IsFirstNameFault}
+use Rattle.family_names.specs.Names.{NameContext, has_main, in_scope_at, taken_at, is_among, is_kept, is_feature, is_used_behind, sections_behind, IsFirstNameFault}
 use Rattle.c_parser.specs.FamilyItems.{HasItems}
 use Rattle.c_parser.specs.FamilyReading.{context_of, IsFamilyRefused}
 use Rattle.c_parser.specs.Items.{Listed}
@@ -38,19 +38,21 @@ use Rattle.c_parser.specs.Reading.{outside}
 use Rattle.c_parser.specs.Variants.{given_of}
 use Rattle.c_parser.proofs.Declared.{later_none}
 use Rattle.c_grammar.proofs.Apart.{directives_apart}
+use Rattle.c_grammar.proofs.Beside.{directives_beside}
 use Rattle.c_grammar.proofs.Level.{directives_level}
 use Rattle.c_grammar.proofs.Outside.{directives_outside}
 use Rattle.c_parser.proofs.KeptConstants.{apart_before, same_sections}
 use Rattle.c_parser.proofs.KeptFaults.{kept_fine}
 use Rattle.c_parser.proofs.KeptFunctions.{call_alone, prototype_alone}
 use Rattle.c_parser.proofs.KeptNames.{MainStays, kept_more, stays_before, has_main_kept, stand_before, used_kept, open_kept}
+use Rattle.c_parser.proofs.KeptLocals.{beside_before, names_taken_kept}
 use Rattle.c_parser.proofs.KeptScopes.{level_before, names_in_scope_kept}
 use Rattle.c_parser.proofs.KeptTexts.{TextLaws, same_told, variant_items}
 use Rattle.c_parser.proofs.MainItems.{main_stays}
 use Rattle.c_parser.proofs.Projecting.{VariantsArePlain}
 use Rattle.reading_laws.specs.Shown.{IsShown, UndeclaredNamesAreShown, SecondDeclarationsAreShown}
 use Rattle.reading_laws.proofs.Early.{is_of_name, TokensAreRead, early_other, wrong_other}
-use Rattle.reading_laws.proofs.Examples.{FirstAt, some_fault, find_first, is_there, functions_for, IsExample, name_used, name_again}
+use Rattle.reading_laws.proofs.Examples.{FirstAt, some_fault, find_first, is_there, names_for, functions_for, IsExample, name_used, name_again}
 use Rattle.reading_laws.proofs.OtherFaults.{some_code}
 use Rattle.reading_laws.proofs.OutsideFaults.{uncounted, values_at, values_outside, same_outside}
 use Rattle.reading_laws.proofs.OutsideNames.{none_outside}
@@ -79,21 +81,24 @@ decides outer before (k ∷ ks) ms x code h e =
 abbrev shown : Bool → FileCode
 shown missed = cond missed (Undeclared None) (Twice None)
 
-by_kind : (outer : Outside) (own : Bool) (ns : List ℕ) (n : ℕ) (b : Bool) → (b ≡ true → alone.has_value outer n ≡ false) → is_there b own (is_among n ns) ≡ not b → (if b then alone.use_fault outer own ns n else alone.declaration_fault outer ns n) ≡ Some (shown b)
-by_kind outer own ns n true v d =
-    ap (λ (c : Bool). if c || (not own && is_among n ns) then None else some_code (Undeclared None)) (v refl) ∙ ap (λ (c : Bool). if c then None else some_code (Undeclared None)) d
-by_kind outer own ns n false v d = ap (λ (c : Bool). if c then some_code (Twice None) else (if alone.has_value outer n then Some FeatureInCode else alone.limit_fault outer n)) d
+by_kind : (outer : Outside) (own : Bool) (truths : List Bool) (front : List Item) (n : ℕ) (b : Bool) → (b ≡ true → alone.has_value outer n ≡ false) → is_there b own (is_among n (names_for b truths front)) ≡ not b
+    → (if b then alone.use_fault outer own (in_scope_at truths front) n else alone.declaration_fault outer (taken_at truths front) n) ≡ Some (shown b)
+by_kind outer own truths front n true v d =
+    ap (λ (c : Bool). if c || (not own && is_among n (in_scope_at truths front)) then None else some_code (Undeclared None)) (v refl) ∙ ap (λ (c : Bool). if c then None else some_code (Undeclared None)) d
+by_kind outer own truths front n false v d = ap (λ (c : Bool). if c then some_code (Twice None) else (if alone.has_value outer n then Some FeatureInCode else alone.limit_fault outer n)) d
 
-here_alone : (outer : Outside) (truths : List Bool) (front : List Item) (n : ℕ) (b : Bool) → (b ≡ true → alone.has_value outer n ≡ false) → StandOutside false None front → AreLevel [] 0 front → MainStays truths [] front → is_kept truths front ≡ true → is_used_behind front ≡ b
-    → is_there b (is_in_own front n) (is_among n (in_scope_at truths front)) ≡ not b → alone.name_fault outer (kept truths front) (signs.Name n) ≡ Some (shown b)
-here_alone outer truths front n b v s l m k h d =
+here_alone : (outer : Outside) (truths : List Bool) (front : List Item) (n : ℕ) (b : Bool) → (b ≡ true → alone.has_value outer n ≡ false) → StandOutside false None front → AreLevel [] 0 front → AreBeside false front → MainStays truths [] front → is_kept truths front ≡ true → is_used_behind front ≡ b
+    → is_there b (is_in_own front n) (is_among n (names_for b truths front)) ≡ not b → alone.name_fault outer (kept truths front) (signs.Name n) ≡ Some (shown b)
+here_alone outer truths front n b v s l w m k h d =
     let used : is_used_behind (kept truths front) ≡ b = used_kept truths front s m k ∙ h in
     let own : is_in_own (kept truths front) n ≡ is_in_own front n = ap (is_open n) (open_kept truths front s k) in
     let names : names_in_scope (kept truths front) ≡ in_scope_at truths front = names_in_scope_kept truths front s m l in
-    ap (λ (c : Bool). if c then alone.use_fault outer (is_in_own (kept truths front) n) (names_in_scope (kept truths front)) n else alone.declaration_fault outer (names_in_scope (kept truths front)) n) used
-    ∙ ap (λ (c : Bool). if b then alone.use_fault outer c (names_in_scope (kept truths front)) n else alone.declaration_fault outer (names_in_scope (kept truths front)) n) own
-    ∙ ap (λ (ns : List ℕ). if b then alone.use_fault outer (is_in_own front n) ns n else alone.declaration_fault outer ns n) names
-    ∙ by_kind outer (is_in_own front n) (in_scope_at truths front) n b v d
+    let taken : names_taken (kept truths front) ≡ taken_at truths front = names_taken_kept truths front s m l w k in
+    ap (λ (c : Bool). if c then alone.use_fault outer (is_in_own (kept truths front) n) (names_in_scope (kept truths front)) n else alone.declaration_fault outer (names_taken (kept truths front)) n) used
+    ∙ ap (λ (c : Bool). if b then alone.use_fault outer c (names_in_scope (kept truths front)) n else alone.declaration_fault outer (names_taken (kept truths front)) n) own
+    ∙ ap (λ (ns : List ℕ). if b then alone.use_fault outer (is_in_own front n) ns n else alone.declaration_fault outer (names_taken (kept truths front)) n) names
+    ∙ ap (λ (ns : List ℕ). if b then alone.use_fault outer (is_in_own front n) (in_scope_at truths front) n else alone.declaration_fault outer ns n) taken
+    ∙ by_kind outer (is_in_own front n) truths front n b v d
 
 -- a function that stays
 function_alone : (outer : Outside) (truths : List Bool) (front : List Item) (k : ℕ) (b : Bool) → AreApart kinds.Variable false front → MainStays truths [] front → is_kept truths front ≡ true → has_main front ≡ b → is_among k (functions_for b truths front) ≡ not b
@@ -110,12 +115,12 @@ record HasFault (outer : Outside) (front : List Item) (sign : Sign) (code : File
   is_token : is_group sign ≡ false
   fault_is : alone.name_fault outer front sign ≡ Some code
 
-has_fault : (context : NameContext) (outer : Outside) (front : List Item) (sign : Sign) (values : List ℤ) (b : Bool) → ((n : ℕ) → is_feature context n ≡ false → alone.has_value outer n ≡ false) → AreApart kinds.Variable false front → StandOutside false None front → AreLevel [] 0 front → MainStays (family.truths_at context values) [] front
+has_fault : (context : NameContext) (outer : Outside) (front : List Item) (sign : Sign) (values : List ℤ) (b : Bool) → ((n : ℕ) → is_feature context n ≡ false → alone.has_value outer n ≡ false) → AreApart kinds.Variable false front → StandOutside false None front → AreLevel [] 0 front → AreBeside false front → MainStays (family.truths_at context values) [] front
     → IsExample context front sign values b → HasFault outer (kept (family.truths_at context values) front) sign (shown b)
-has_fault context outer front sign values b none apart s l m e = elim e.is [
+has_fault context outer front sign values b none apart s l w m e = elim e.is [
   | inl n ↦ subst (λ (s : Sign). HasFault outer (kept (family.truths_at context values) front) s (shown b)) (sym n.sign_is) (record {
     is_token = refl;
-    fault_is = here_alone outer (family.truths_at context values) front n.name b (λ q. none n.name (n.free q)) s l m e.stays n.use_is n.declared;
+    fault_is = here_alone outer (family.truths_at context values) front n.name b (λ q. none n.name (n.free q)) s l w m e.stays n.use_is n.declared;
   })
   | inr f ↦ subst (λ (s : Sign). HasFault outer (kept (family.truths_at context values) front) s (shown b)) (sym f.sign_is) (record {
     is_token = refl;
@@ -136,10 +141,10 @@ abbrev outer_at : NameContext → List ℤ → Outside
 outer_at context values = outside (given_of context.model.features context.functions context.names values)
 
 -- the items that stay have the fault at the same place
-alone_at : (context : NameContext) (items : List Item) (code : FileCode) (place : Place) (values : List ℤ) (b : Bool) → AreApart kinds.Variable false items → StandOutside false None items → AreLevel [] 0 items → (f : FirstAt context items code place) → IsExample context f.front f.item.sign values b → MainStays (family.truths_at context values) [] items
+alone_at : (context : NameContext) (items : List Item) (code : FileCode) (place : Place) (values : List ℤ) (b : Bool) → AreApart kinds.Variable false items → StandOutside false None items → AreLevel [] 0 items → AreBeside false items → (f : FirstAt context items code place) → IsExample context f.front f.item.sign values b → MainStays (family.truths_at context values) [] items
     → alone.first_name_fault (outer_at context values) (kept (family.truths_at context values) items) ≡ Some (shown b, place)
 unfolding alone.first_name_fault
-alone_at context items code place values b apart stand level f e m =
+alone_at context items code place values b apart stand level beside f e m =
     let truths = family.truths_at context values in
     let inner = sections_behind (family.truths_at context values) [] f.front in
     let more : List Item = kept_from (family.truths_at context values) (sections_behind (family.truths_at context values) [] f.front) f.back in
@@ -148,10 +153,11 @@ alone_at context items code place values b apart stand level f e m =
     let front_apart = apart_before kinds.Variable false f.front (f.item ∷ f.back) (subst (AreApart kinds.Variable false) f.are apart) in
     let front_stands = stand_before f.front (f.item ∷ f.back) (subst (StandOutside false None) f.are stand) in
     let front_level = level_before [] 0 f.front (f.item ∷ f.back) (subst (AreLevel [] 0) f.are level) in
+    let front_beside = beside_before f.front (f.item ∷ f.back) (subst (AreBeside false) f.are beside) in
     let fine : alone.first_name_fault (outer_at context values) (kept (family.truths_at context values) f.front) ≡ None =
     same_outside context values (family.truths_at context values) f.front f.fine
-    ∙ kept_fine context (uncounted (values_at context values)) f.front values (values_outside context values) front_apart front_stands front_level f.fine e.valid main in
-    let here = has_fault context (outer_at context values) f.front f.item.sign values b (none_outside context values) front_apart front_stands front_level main e in
+    ∙ kept_fine context (uncounted (values_at context values)) f.front values (values_outside context values) front_apart front_stands front_level front_beside f.fine e.valid main in
+    let here = has_fault context (outer_at context values) f.front f.item.sign values b (none_outside context values) front_apart front_stands front_level front_beside main e in
     let are : kept (family.truths_at context values) items ≡ kept (family.truths_at context values) f.front ++ f.item ∷ more =
     ap (kept (family.truths_at context values)) f.are ∙ kept_more (family.truths_at context values) [] f.front (f.item ∷ f.back) ∙ ap (λ (w : List Item). kept (family.truths_at context values) f.front ++ w) (token_stays (family.truths_at context values) f.front f.item f.back here.is_token e.stays) in
     ap (alone.first_name_fault (outer_at context values)) are
@@ -248,7 +254,7 @@ undeclared_names_are_shown laws dialect model bytes text values place r q =
     let spelled = laws.is_file n.listed.names n.listed.items n.program n.spelled in
     let main = main_stays (family.truths_at (context_of model n.atoms n.formulas n.listed.names n.functions) values) spelled.forms in
     variant_shows laws dialect model bytes text (Undeclared (Some values), place) values place true n q example.valid
-    (alone_at (context_of model n.atoms n.formulas n.listed.names n.functions) n.listed.items (Undeclared (Some values)) place values true (directives_apart n.listed.items spelled.file spelled.forms) (directives_outside n.listed.items spelled.file spelled.forms) (directives_level n.listed.items spelled.file spelled.forms) first example main)
+    (alone_at (context_of model n.atoms n.formulas n.listed.names n.functions) n.listed.items (Undeclared (Some values)) place values true (directives_apart n.listed.items spelled.file spelled.forms) (directives_outside n.listed.items spelled.file spelled.forms) (directives_level n.listed.items spelled.file spelled.forms) (directives_beside n.listed.items spelled.file spelled.forms) first example main)
 
 pub second_declarations_are_shown : ShownLaws → SecondDeclarationsAreShown
 second_declarations_are_shown laws dialect model bytes text values place r q =
@@ -258,4 +264,4 @@ second_declarations_are_shown laws dialect model bytes text values place r q =
     let spelled = laws.is_file n.listed.names n.listed.items n.program n.spelled in
     let main = main_stays (family.truths_at (context_of model n.atoms n.formulas n.listed.names n.functions) values) spelled.forms in
     variant_shows laws dialect model bytes text (Twice (Some values), place) values place false n q example.valid
-    (alone_at (context_of model n.atoms n.formulas n.listed.names n.functions) n.listed.items (Twice (Some values)) place values false (directives_apart n.listed.items spelled.file spelled.forms) (directives_outside n.listed.items spelled.file spelled.forms) (directives_level n.listed.items spelled.file spelled.forms) first example main)
+    (alone_at (context_of model n.atoms n.formulas n.listed.names n.functions) n.listed.items (Twice (Some values)) place values false (directives_apart n.listed.items spelled.file spelled.forms) (directives_outside n.listed.items spelled.file spelled.forms) (directives_level n.listed.items spelled.file spelled.forms) (directives_beside n.listed.items spelled.file spelled.forms) first example main)

@@ -31,8 +31,8 @@ abbrev pub UndeclaredNamesAreShown : Type 0
 UndeclaredNamesAreShown = (dialect : Dialect) (model : Model) (bytes text : List ℕ) (values : List ℤ) (place : Place) → IsFamilyRefused dialect model bytes (Undeclared (Some values), place) → IsPreprocessed dialect (plain model) (truths_at values) bytes text
     → IsShown dialect (plain model) bytes text values (Undeclared None, place)
 
--- the same of a name that it declares where an earlier declaration of it is in scope, or a function that it declares with a value and with
--- `void`
+-- the same of a name that it declares where an earlier declaration of it is in scope, or another one in `main`, where one of the two is static,
+-- or a function that it declares with a value and with `void`
 abbrev pub SecondDeclarationsAreShown : Type 0
 SecondDeclarationsAreShown = (dialect : Dialect) (model : Model) (bytes text : List ℕ) (values : List ℤ) (place : Place) → IsFamilyRefused dialect model bytes (Twice (Some values), place) → IsPreprocessed dialect (plain model) (truths_at values) bytes text
     → IsShown dialect (plain model) bytes text values (Twice None, place)

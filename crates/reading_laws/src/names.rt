@@ -42,8 +42,9 @@ pub fn families_have_the_names_that_they_declare()
 
 /// Where a file with groups is refused for a name that some valid configuration uses where no declaration of it is in scope, as
 /// behind its block or in its own declarator, or declares where an earlier declaration of it is in scope (ISO/IEC 9899:2011,
-/// 6.2.1), the example is such a configuration: the text of its variant, read over the names of the file and the values of the
-/// features among them, is refused with the same code at the same place. So it is with functions, which are called or declared.
+/// 6.2.1), or stands in another block of `main` and one of the two is static (6.2.4), the example is such a configuration: the
+/// text of its variant, read over the names of the file and the values of the features among them, is refused with the same code
+/// at the same place. So it is with functions, which are called or declared.
 pub fn refusals_of_names_are_shown()
     ensures undeclared { UndeclaredNamesAreShown }
     ensures twice { SecondDeclarationsAreShown }

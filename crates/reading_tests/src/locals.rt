@@ -20,6 +20,11 @@ fn declarations_are_statements(rt: HostRuntime) -> Result<(), Fail> {
             "const int k = 2;\nint g;\nint main(void) { signed int const c = g, d = input(); { int32_t b; } }",
             "Program { names: Names { list: [Text { bytes: [103] }, Text { bytes: [99] }, Text { bytes: [100] }, Text { bytes: [98] }, Text { bytes: [107] }] }, start: Values { list: [0, 0, 0, 0, 2] }, declared: Declarations { list: [] }, body: [Assign { place: Place { line: 3, column: 35 }, target: 1, value: Var(0) }, Input { place: Place { line: 3, column: 42 }, target: 2 }, Block { place: Place { line: 3, column: 55 }, body: [Input { place: Place { line: 3, column: 65 }, target: 3 }] }], end: Place { line: 3, column: 70 } }",
         ),
+        // static variables leave no statement
+        (
+            "int main(void) { static int x = -7; x = 1; { static signed y; } }",
+            "Program { names: Names { list: [Text { bytes: [120] }, Text { bytes: [121] }] }, start: Values { list: [-7, 0] }, declared: Declarations { list: [] }, body: [Assign { place: Place { line: 1, column: 37 }, target: 0, value: Number(1) }, Block { place: Place { line: 1, column: 44 }, body: [] }], end: Place { line: 1, column: 65 } }",
+        ),
         // two declarations of one name, whose scopes are apart
         (
             "int main(void) { { int x; } int x = 1; }",
@@ -43,13 +48,17 @@ int main(void) { int x = input() + 1; } => Syntax 1:34
 int main(void) { int x += 1; } => Syntax 1:24
 int main(void) { const x = 1; } => Syntax 1:24
 int main(void) { const int const x = 1; } => Syntax 1:28
-int main(void) { static int x; } => Syntax 1:18
+int main(void) { static x; } => Syntax 1:25
+int main(void) { static int x = y; } => Syntax 1:33
+int main(void) { if (1) static int x; } => Syntax 1:25
 int main(void) { enum { A }; } => Syntax 1:18
 int main(void) { if (1) int x; } => Syntax 1:25
 int main(void) { if (1) ; else const int x = 1; } => Syntax 1:32
 int main(void) { int x = 1, y = y; } => Undeclared(None) 1:33
 int main(void) { int x; { int x; } } => Twice(None) 1:31
 int main(void) { { int x; } x = 1; } => Undeclared(None) 1:29
+int main(void) { { static int x; } { int x; } } => Twice(None) 1:42
+int main(void) { { int x; } { static int x; } } => Twice(None) 1:42
 ";
     refuse_all(&rt, rt.alloc(), rows)?;
     Ok(())

@@ -1,7 +1,8 @@
 use Rattle.std.proofs.Common.{refl, sym, ◌∙◌}
 use Rattle.std.proofs.lemmas.Result.{IfOk-weaker}
+use Rattle.c_grammar.specs.declared.items.Sign.TheVariants as signs
 use Rattle.c_parser.specs.declared.names.Known.{Known}
-use Rattle.c_parser.specs.Judging.{Declares, JudgesFunction, Judges, counted}
+use Rattle.c_parser.specs.Judging.{JudgesFunction, Judges, counted}
 use Rattle.c_parser.proofs.Judging.{at_main, at_use, at_declaration, at_function, at_other, other_sign}
 use Rattle.c_parser.proofs.names.judge.Goals as goal
 
@@ -16,10 +17,8 @@ returns-then-uses_next c = λ before k t.
 
 pub returns-else-uses_next : goal.returns-else-uses_next
 returns-else-uses_next c = λ before k t.
-    let new : Known = record { declared = c.declare.new.declared; prototypes = c.args.known.now.prototypes; in_main = c.args.known.now.in_main } in
-    let used = c.uses_next.ensures before k.main t in
-    IfOk-weaker c.declare.result (λ fault. Declares (counted c.args.limits) before c.in-Name.number c.declare.new.declared fault) (λ fault. Judges (counted c.args.limits) before c.args.sign new fault)
-    (λ fault d. at_declaration (counted c.args.limits) before c.args.sign c.args.known.now new c.in-Name.number c.uses_next.result fault c.in-Name.is c.if-uses_next.false used refl refl k d) (c.declare.ensures before k.declared (sym used ∙ c.if-uses_next.false))
+    IfOk-weaker c.declare.result (λ fault. Judges (counted c.args.limits) before (signs.Name c.in-Name.number) c.declare.new.known fault) (λ fault. Judges (counted c.args.limits) before c.args.sign c.declare.new.known fault)
+    (λ fault j. at_declaration (counted c.args.limits) before c.args.sign c.declare.new.known c.in-Name.number fault c.in-Name.is j) (c.declare.ensures before k t (sym (c.uses_next.ensures before k.main t) ∙ c.if-uses_next.false))
 
 pub returns-in_ok-follow_blocks-in_default : goal.returns-in_ok-follow_blocks-in_default
 returns-in_ok-follow_blocks-in_default c = λ before k t.
@@ -28,6 +27,6 @@ returns-in_ok-follow_blocks-in_default c = λ before k t.
 
 pub returns-in-Function : goal.returns-in-Function
 returns-in-Function c = λ before k t.
-    let new : Known = record { declared = c.args.known.now.declared; prototypes = c.judge.new.self; in_main = c.args.known.now.in_main } in
+    let new : Known = record { declared = c.args.known.now.declared; locals = c.args.known.now.locals; prototypes = c.judge.new.self; in_main = c.args.known.now.in_main } in
     IfOk-weaker c.judge.result (λ fault. JudgesFunction before c.in-Function.number c.judge.new.self fault) (λ fault. Judges (counted c.args.limits) before c.args.sign new fault)
-    (λ fault f. at_function (counted c.args.limits) before c.args.sign c.args.known.now new c.in-Function.number fault c.in-Function.is refl refl k f) (c.judge.ensures before k.main k.prototypes t)
+    (λ fault f. at_function (counted c.args.limits) before c.args.sign c.args.known.now new c.in-Function.number fault c.in-Function.is refl refl refl k f) (c.judge.ensures before k.main k.prototypes t)

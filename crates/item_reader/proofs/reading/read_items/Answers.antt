@@ -9,6 +9,9 @@ use Rattle.item_reader.proofs.reading.read_items.Goals as goal
 pub read_file-requires : goal.read_file-requires
 read_file-requires c = unsigned_items (length c.args.names) c.args.items.now c.requires.fit
 
+pub program_of-requires : goal.program_of-requires
+program_of-requires c = unsigned_items (length c.args.names) c.args.items.now c.requires.fit
+
 pub returns-in_err-file-clause-wrong : goal.returns-in_err-file-clause-wrong
 returns-in_err-file-clause-wrong c =
     let p = err_from_is_err_and c.from_residual.result c.from_residual.ensures.1 in
