@@ -1,7 +1,6 @@
 int level;
 int main(void)
 {
-    do
-        level++;
-    while (level < 10);
+    unsigned tick = 0;
+    level = tick + 1;
 }

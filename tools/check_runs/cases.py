@@ -1,8 +1,9 @@
 """Programs whose outcome was worked out by hand from ISO/IEC 9899:2011, and outcomes of which it is known whether they are the same.
 
 The operators are those of 6.5.3.3 and 6.5.5 to 6.5.14, what does not fit `int` is 6.5, paragraph 5, truncation and the sign of a remainder
-6.5.5, paragraph 6, and what `&&` and `||` leave out 6.5.13 and 6.5.14, paragraph 4. The order of the parts of a `for` is 6.8.5.3. Macros
-are 6.10.3: the tokens of `#define` stand in the place of its name, and those of `-DNAME=VALUE` in the place of a feature's.
+6.5.5, paragraph 6, and what `&&` and `||` leave out 6.5.13 and 6.5.14, paragraph 4. The order of the parts of a `do` is 6.8.5.2, of those of
+a `for` 6.8.5.3, and where a jump leads 6.8.6. Macros are 6.10.3: the tokens of `#define` stand in the place of its name, and those of `-DNAME=VALUE` in the place of a
+feature's.
 """
 from __future__ import annotations
 
@@ -109,8 +110,34 @@ PROGRAMS = [
     case("a for in a for", "int i, j, n;", "for (i = 0; i < 3; i++)\nfor (j = i; j < 3; ++j)\nn++;", "ended i=3 j=3 n=6"),
     case("a for in an if", "int x, y = 5, z;", "if (x)\nfor (y = 0; y < 3; y++)\nz++;\nelse\nz = 9;", "ended x=0 y=5 z=9"),
     case("an if in a for", "int x, y, z;", "for (; x < 3; x++) if (x) y++; else z++;", "ended x=3 y=2 z=1"),
-    case("a static variable of main", "int i, x;", "for (i = 0; i < 3; i++) {\nstatic int n = 10;\nn += i;\nx = n;\n}", "ended i=3 x=13 n=13"),
-    case("a static constant of main", "int x;", "static const int k = -4;\nx = k * 2;", "ended x=-8 k=-4"),
+    case("a do", "int x;", "do\nx++;\nwhile (x < 3);", "ended x=3"),
+    case("a do whose test fails at once", "int x = 5;", "do\nx++;\nwhile (x < 3);", "ended x=6"),
+    case("a do in a do", "int x;", "do\ndo\nx++;\nwhile (x < 3);\nwhile (x < 5);", "ended x=5"),
+    case("a while in a do", "int x;", "do while (x < 2) x++; while (0);", "ended x=2"),
+    case("a do by inputs", "int x, y;", "do {\nx = input();\ny += x;\n} while (x);", "ended x=0 y=7", inputs=(3, 4, 0)),
+    case("a do that waits", "int x, y;", "do {\nx = input();\ny += x;\n} while (x);", "waiting x=4 y=7", inputs=(3, 4)),
+    case("the body of a do", "int x, y;", "do\ny = 6 / x;\nwhile (1 / y);", "4 zero-divisor"),
+    case("the test of a do", "int x;", "do\nx = 0;\nwhile (\n7 / x);", "6 zero-divisor"),
+    case("the test of a do, behind its body", "int x = 3;", "do x -= 3; while (\n7 / x);", "4 zero-divisor"),
+    case("else behind a do", "int x, y;", "if (x) do if (y) y = 1; while (0); else y = 2;", "ended x=0 y=2"),
+    case("else in a do", "int x = 1, y;", "if (x) do if (y) y = 1; else y = 3; while (y < 3);", "ended x=1 y=3"),
+    case("break", "int x;", "while (1) {\nif (x == 2)\nbreak;\nx++;\n}\nx *= 5;", "ended x=10"),
+    case("break leaves out the step", "int i;", "for (i = 0;; i++)\nif (i == 3)\nbreak;", "ended i=3"),
+    case("break leaves out the test", "int x;", "do\nbreak;\nwhile (1 / x);", "ended x=0"),
+    case("break out of the inner loop", "int i, j, n;", "for (i = 0; i < 3; i++)\nfor (j = 0;; j++) {\nif (j == i)\nbreak;\nn++;\n}", "ended i=3 j=2 n=3"),
+    case("break out of blocks", "int x;", "do { { if (x < 9) { { break; } } x = 1; } x = 2; } while (1);", "ended x=0"),
+    case("continue in a while", "int x, y;", "while (x < 4) {\nx++;\nif (x == 2)\ncontinue;\ny += x;\n}", "ended x=4 y=8"),
+    case("continue in a for", "int i, s;", "for (i = 0; i < 5; i++) {\nif (i % 2)\ncontinue;\ns += i;\n}", "ended i=5 s=6"),
+    case("continue to the step", "int x = 3;", "for (;\nx;\nx = 6 / x) {\nx -= 3;\ncontinue;\n}", "5 zero-divisor"),
+    case("continue in a do", "int x, y;", "do {\nx++;\nif (x == 2)\ncontinue;\ny += x;\n} while (x < 4);", "ended x=4 y=8"),
+    case("continue to the test", "int x, y;", "do {\nif (!x)\ncontinue;\ny = 1;\n} while (\n1 / x);", "8 zero-divisor"),
+    case("continue of the inner loop", "int i, j;", "while (i < 2) {\ni++;\ndo\ncontinue;\nwhile (j > 9);\nj += i;\n}", "ended i=2 j=3"),
+    case("return in loops", "int i, j;", "for (i = 0; i < 3; i++)\nfor (j = 0; j < 3; j++)\nif (i + j == 3)\nreturn 0;\ni = 9;", "ended i=1 j=2"),
+    case("the value of a return", "int x = 2147483647;", "return x + 1;\nx = 1;", "3 overflow", "ended x=2147483647"),
+    case("the value of a return, a quotient", "int x;", "if (!x)\nreturn 1 / x;\nx = 5;", "4 zero-divisor"),
+    case("what a return leaves out", "int x;", "return 0;\nassert(x);", "ended x=0"),
+    case("a static variable of main", "int i, x;", "for (i = 0; i < 3; i++) {\nstatic int n = 10;\nn += i;\nx = n;\n}", "ended i=3 x=13"),
+    case("a static constant of main", "int x;", "static const int k = -4;\nx = k * 2;", "ended x=-8"),
     case("constants", "int x; const int A = 3; int const B = -2;", "x = A - B;", "ended x=5 A=3 B=-2"),
     case("constants that are counted", "int x; enum { A, B, C = 0x10, D, E = -3, F, };", "x = D + F;", "ended x=15 A=0 B=1 C=16 D=17 E=-3 F=-2"),
     case("words of the type", "int32_t a = 1; signed b = 2; int signed c; static signed int d;", "c = a + b;\nd = c;", "ended a=1 b=2 c=3 d=3"),
@@ -184,6 +211,24 @@ int main(void) {
 #endif
 }
 """
+LEFT = """int x;
+int main(void) {
+    do {
+#ifdef A
+        if (x == N)
+            break;
+#elif N < 0
+        return N;
+#endif
+        x++;
+#if N == 2
+        continue;
+        x = 9;
+#endif
+    } while (x < 4);
+    x = -x;
+}
+"""
 LEAST = """int x;
 int main(void) {
     x = WIDTH * WIDTH;
@@ -210,6 +255,9 @@ FAMILIES = [
     *variants("a division by a feature", DIVIDED, {"N=0": "4 zero-divisor", "N=-2": "ended x=-2 N=-2", "N=3": "ended x=1 N=3"}),
     *variants("a feature in tests", GUARDED, {
         "N=0": "ended x=0 y=0 N=0", "N=-2": "ended x=3 y=1 N=-2", "N=-1": "ended x=1 y=0 N=-1", "N=3": "ended x=1 y=1 N=3"}),
+    *variants("jumps in groups", LEFT, {
+        "A=1 N=3": "ended x=-3 N=3", "A=1 N=-1": "ended x=-4 N=-1", "N=-1": "ended x=0 N=-1", "N=2": "ended x=-4 N=2",
+        "A=1 N=2": "ended x=-2 N=2", "N=0": "ended x=-4 N=0"}),
     *variants("the least feature", LEAST, {"WIDTH=-1048576": ("3 overflow", "ended x=-1048576 WIDTH=-1048576")}, ONE_VALUE),
 ]
 
@@ -224,6 +272,8 @@ int main(void) {
     for (x = 3 / y; x < 3 / y; x += 3 / y) y = 3 / x;
     if (x) for (x = 3 / y; /* a note; and ) */ x; x = 3 / y) ;
     for (;; x = (3) / y) y = (3 / x);
+    do y = 1 / x; while (3 / x);
+    return 4 / x;
 }
 """
 REPORT = "t.c:{}:{}: runtime error: {} cannot be represented in type 'int'\nSUMMARY: ..\n"
@@ -275,6 +325,13 @@ OUTCOMES = [
     ("stopped 9:13 zero-divisor\n", "", BY_ZERO.format(9, 21), True),
     ("stopped 9:13 zero-divisor\n", "", BY_ZERO.format(9, 33), False),
     ("stopped 9:26 zero-divisor\n", "", BY_ZERO.format(9, 33), True),
+    ("stopped 10:8 zero-divisor\n", "", BY_ZERO.format(10, 14), True),
+    ("stopped 10:8 zero-divisor\n", "", BY_ZERO.format(10, 28), False),
+    ("stopped 10:5 zero-divisor\n", "", BY_ZERO.format(10, 14), False),
+    ("stopped 10:26 zero-divisor\n", "", BY_ZERO.format(10, 28), True),
+    ("stopped 10:26 zero-divisor\n", "", BY_ZERO.format(10, 14), False),
+    ("stopped 10:26 zero-divisor\n", "", BY_ZERO.format(11, 14), False),
+    ("stopped 11:5 zero-divisor\n", "", BY_ZERO.format(11, 14), True),
     ("file: F12 at 1:1\n", "file: F12 at 1:1\n", "", False),
     ("", "", "Segmentation fault\n", False),
 ]

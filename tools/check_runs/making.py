@@ -1,6 +1,6 @@
-"""Makes families at random, by a seed, within the C that famlint reads: groups, loops by `while` and by `for`, assertions, the short forms of
-assignments, constants, number features as values, functions outside, and variables of `main`, in which overflows, zero divisors and failed
-assertions do occur."""
+"""Makes families at random, by a seed, within the C that famlint reads: groups, loops by `while`, `for` and `do`, with `break`, `continue` and
+`return`, assertions, the short forms of assignments, constants, number features as values, functions outside, and variables of `main`, in
+which overflows, zero divisors and failed assertions do occur."""
 from __future__ import annotations
 
 import json
@@ -47,6 +47,10 @@ HELD: dict[str, Callable[[Family], object]] = {
     "a `#define`": lambda family: re.search(r"#\s*define\b", code_of(family.file)),
     "a number feature in the code": Family.valued,
     "a `for`": lambda family: re.search(r"\bfor\b", code_of(family.file)),
+    "a `do`": lambda family: re.search(r"\bdo\b", code_of(family.file)),
+    "a `break`": lambda family: re.search(r"\bbreak\b", code_of(family.file)),
+    "a `continue`": lambda family: re.search(r"\bcontinue\b", code_of(family.file)),
+    "a `return` before the end": lambda family: re.search(r"\breturn\b[^;]*;(?!\s*\}\s*\Z)", code_of(family.file)),
     "variables of `main`": lambda family: declarators(family.file),
     "a `static` one of these": lambda family: statics(family.file),
     "one name in several blocks": lambda family: has_twins([it.split("=")[0].strip() for it in declarators(family.file)]),
@@ -76,7 +80,7 @@ class Maker:
     """A family in the making. `free` are the variables that every configuration declares, `some` those of one switch each, `constants`
     what every configuration declares by `const`, `enum` or `#define`, with the number features that stand in the code, `other` the
     constants of one switch each, `functions` the functions outside with a value, `locals` names for variables of `main` and `statics` for `static` ones. `counters`
-    are variables that loops alone change, and `counting` those of the loops around a statement."""
+    are variables that loops alone change, and `counting` those of the loops around a statement. So many loops are around it as `inside` says."""
 
     def __init__(self, rng: random.Random):
         self.rng = rng
@@ -84,6 +88,7 @@ class Maker:
         self.numbers = [self.number(name, most) for name, most, share in (("SIZE", 12, 0.7), ("WIDTH", 3, 0.3)) if rng.random() < share]
         self.counters: list[str] = []
         self.counting: list[str] = []
+        self.inside = 0
         self.free: list[str] = []
         self.some: dict[str, str] = {}
         self.constants: list[str] = []
@@ -284,6 +289,24 @@ class Maker:
             return f"assert({self.over(scope).likely(rng.choice(scope))});"
         return rng.choice(("note();", "(void)note();")) if "note" in self.functions else ";"
 
+    def jump(self, scope: list[str]) -> str:
+        """A jump; outside loops it ends the program."""
+        rng = self.rng
+        word = rng.choices(("break", "continue", "return"), (5, 5, 1) if self.inside else (0, 0, 1))[0]
+        return f"return {self.over(scope).value(rng.choice((0, 0, 1, 2)))};" if word == "return" else f"{word};"
+
+    def leaving(self, scope: list[str]) -> list[str]:
+        """A jump, mostly by a test."""
+        jump = self.jump(scope)
+        return [f"if ({self.over(scope).test(1)})", f"    {jump}"] if self.rng.random() < 0.85 else [jump]
+
+    def in_loop(self, make: Callable[[], list[str]]) -> list[str]:
+        """What a loop has as its body."""
+        self.inside += 1
+        lines = make()
+        self.inside -= 1
+        return lines
+
     def block(self, scope: list[str], depth: int, *first: str) -> list[str]:
         """Statements in braces. What they declare is out of scope behind them, so that a later block may declare it too."""
         free = list(self.locals)
@@ -310,16 +333,26 @@ class Maker:
         start, test, step = (rng.choice(it).format(i=counter, n=bound, call=self.taken()) for it in form)
         if form is UP and rng.random() < 0.15:
             test = f"{test} && ({self.over(scope).test(1)})"
-        return [self.header(start, test, step), *(self.body(scope, depth) if step else self.block(scope, depth - 1, f"{counter}++;"))]
+        held = self.in_loop(lambda: self.body(scope, depth) if step else self.block(scope, depth - 1, f"{counter}++;"))
+        return [self.header(start, test, step), *held]
 
     def any_loop(self, scope: list[str], depth: int) -> list[str]:
         """A loop that need not end."""
         rng = self.rng
         test = self.over(scope).test(2)
-        if rng.random() < 0.5:
-            return [f"while ({test})", *self.body(scope, depth)]
+        held = self.in_loop(lambda: self.body(scope, depth))
+        form = rng.choices(("while", "for", "do"), (4, 5, 3))[0]
+        if form == "while":
+            return [f"while ({test})", *held]
+        if form == "do":
+            return self.last_tested(test, held)
         start, step = (self.change(scope) if rng.random() < 0.8 else "" for _ in range(2))
-        return [self.header(start, test, step), *self.body(scope, depth)]
+        return [self.header(start, test, step), *held]
+
+    def last_tested(self, test: str, held: list[str]) -> list[str]:
+        """A `do`, perhaps with its test in several lines."""
+        gap = self.rng.choices(("", "\n        ", " /* a note; and more) */ "), (12, 2, 1))[0]
+        return ["do", *held, f"while ({gap}{test});"]
 
     def loop(self, scope: list[str], depth: int, is_one: bool = False) -> list[str]:
         """A loop, mostly one that a counter of its own ends; or one that is a single statement."""
@@ -333,18 +366,25 @@ class Maker:
         if is_one or rng.random() < 0.6:
             lines = self.counted(left[-1], scope, depth)
         else:
-            lines = [f"{left[-1]} = 0;", f"while ({left[-1]} < {self.bound()})", *self.block(scope, depth - 1, f"{left[-1]}++;")]
+            test = f"{left[-1]} < {self.bound()}"
+            held = self.in_loop(lambda: self.block(scope, depth - 1, f"{left[-1]}++;"))
+            lines = [f"{left[-1]} = 0;", *([f"while ({test})", *held] if rng.random() < 0.5 else self.last_tested(test, held))]
         self.counting.pop()
         return lines
 
     def endless(self) -> list[str]:
-        """A `for` without a test, as the last statement of `main`, since it is left by a stop or a wait for an input alone."""
+        """A loop without a test, as the last statement of `main`, since it is mostly left by a stop or a wait for an input."""
+        held = self.in_loop(lambda: self.block(self.free, DEPTH - 1, f"{self.rng.choice(self.free)} = {self.taken()};"))
+        if self.rng.random() < 0.3:
+            return self.last_tested("1", held)
         start, step = (self.change(self.free) if self.rng.random() < 0.3 else "" for _ in range(2))
-        return [self.header(start, "", step), *self.block(self.free, DEPTH - 1, f"{self.rng.choice(self.free)} = {self.taken()};")]
+        return [self.header(start, "", step), *held]
 
     def body(self, scope: list[str], depth: int) -> list[str]:
-        """What an `if` or a loop holds: one statement, perhaps an `if` or a `for` again, or a block."""
+        """What an `if` or a loop holds: one statement, perhaps an `if` or a loop again, or a block."""
         rng = self.rng
+        if self.inside and rng.random() < 0.08:
+            return [f"    {self.jump(scope)}"]
         if depth > 0 and rng.random() < 0.4:
             return self.choice(scope, depth - 1) if rng.random() < 0.7 else self.loop(scope, depth - 1, is_one=True)
         if rng.random() < 0.4:
@@ -380,6 +420,8 @@ class Maker:
                 lines += declaration
                 scope = scope + names
             kind = rng.choices(("simple", "choice", "loop", "group", "block", "line"), (6, 3, 2, 3, 0.3, 0.7))[0] if depth > 0 else "simple"
+            if rng.random() < (0.12 if self.inside else 0.015):
+                lines += self.leaving(scope)
             if kind == "simple":
                 lines.append(self.simple(scope) + rng.choice(("", "", "", " // a note; and more", " /* if (0) { */")))
             elif kind == "line":
@@ -396,7 +438,7 @@ class Maker:
         body = [line for _ in range(rng.randint(2, 4)) for line in self.statements(self.free, DEPTH)]
         body += self.endless() if rng.random() < 0.1 else []
         head = rng.choice(("int main(void)", "int main()", "signed main(void)"))
-        last = rng.choice(([], ["return 0;"], ["return 3;"]))
+        last = rng.choice(([], ["return 0;"], ["return 3;"], [f"return {self.over(self.free).value(1)};"]))
         return "\n".join(laid_out([*self.declarations, f"{head} {{", *body, *last, "}", ""]))
 
 

@@ -83,12 +83,13 @@ def offset(text: str, line: int, column: int) -> int:
 
 
 def stands_in(text: str, statement: Outcome, operator: Outcome) -> bool:
-    """Whether an operator belongs to the expression of the statement, or of the part of a `for`, that begins at a place: no statement ends
-    or begins between them, and neither do the parentheses of the `for`; what follows an `if` or a `while` is within its own."""
+    """Whether an operator belongs to the expression of the statement, of the part of a `for`, or of the test of a `do`, that begins at a place:
+    no statement ends or begins between them, and neither do the parentheses of the loop; what follows an `if` or a `while` is within its own,
+    and the word `do` has no expression."""
     code = code_of(text)
     begin, at = offset(code, statement.line, statement.column), offset(code, operator.line, operator.column)
     between = code[begin:at]
-    if begin > at or re.search(r"[;{}]", between):
+    if begin > at or re.search(r"[;{}]|\bdo\b", between):
         return False
     least, depth = (1 if re.match(r"(if|while)\b", code[begin:]) else 0), 0
     for it in between:

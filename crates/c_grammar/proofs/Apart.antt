@@ -12,7 +12,7 @@ use Rattle.c_grammar.specs.declared.constants.NameKind.TheVariants as kinds
 use Rattle.c_grammar.specs.declared.items.Item.{Item}
 use Rattle.c_grammar.specs.declared.items.Sign.{Sign}
 use Rattle.c_grammar.specs.declared.items.Sign.TheVariants as signs
-use Rattle.c_grammar.specs.Grammar.{at, Prefix, Positive, Negative, Inverse, prefix_sign, Expresses, number, name, group, prefix, loose, binary, Update, Sum, Difference, Product, Quotient, Remainder, update_sign, Count, Raise, Lower, count_sign, Callable, of_input, of_function, Changes, assignment, input_taken, compound_assignment, count_behind, count_before, Clause, no_clause, clause, Tests, no_test, test, LocalDeclarator, uninitialised, initialised, from_call, Shape, Listed, Stated, Chained, Locals, Writes, none, more, choice, local, static_local, last_local, next_local, ends, otherwise, elif, change, call, void_call, assert, skip, block, while, for, if_then, if_else, Optional, absent, present, Typed, int, int32, signed, signed_int, int_signed, Qualifier, Unqualified, Constant, Counted, behind, Qualified, unqualified, const_before, const_behind, Begins, only_type, then_type, enumeration, Declarator, bare, positive, negative, counted, Ending, variables_end, constants_end, enumeration_end, comma_end, Defines, defined, negative_defined, enclosed, negative_enclosed, Part, Outer, Vars, Later, Declares, nothing, variables, prototype, void_prototype, definition, section, last_var, next_var, end_part, else_part, elif_part, Returns, no_return, return, Gap, Empty, no_more, empty_section, empty_end, empty_else, empty_elif, Body, body, Main, main, file, is_group}
+use Rattle.c_grammar.specs.Grammar.{at, Prefix, Positive, Negative, Inverse, prefix_sign, Expresses, number, name, group, prefix, loose, binary, Update, Sum, Difference, Product, Quotient, Remainder, update_sign, Count, Raise, Lower, count_sign, Callable, of_input, of_function, Changes, assignment, input_taken, compound_assignment, count_behind, count_before, Clause, no_clause, clause, Tests, no_test, test, LocalDeclarator, uninitialised, initialised, from_call, Shape, Listed, Stated, Chained, Locals, Writes, none, more, choice, local, static_local, last_local, next_local, ends, otherwise, elif, change, call, void_call, assert, skip, block, while, for, if_then, if_else, do_while, break, continue, return, Optional, absent, present, Typed, int, int32, signed, signed_int, int_signed, Qualifier, Unqualified, Constant, Counted, behind, Qualified, unqualified, const_before, const_behind, Begins, only_type, then_type, enumeration, Declarator, bare, positive, negative, counted, Ending, variables_end, constants_end, enumeration_end, comma_end, Defines, defined, negative_defined, enclosed, negative_enclosed, Part, Outer, Vars, Later, Declares, nothing, variables, prototype, void_prototype, definition, section, last_var, next_var, end_part, else_part, elif_part, Gap, Empty, no_more, empty_section, empty_end, empty_else, empty_elif, Body, body, Main, main, file, is_group}
 use Rattle.c_grammar.specs.Constants.{kind_behind_name, AreApart, DirectivesStandApart}
 
 -- text in front of which directives may stand: where what follows it is apart, the whole is
@@ -143,9 +143,9 @@ vars_apart (next_var p gs {us} {vs} {x} {n} {ds} {kind} d v) = λ w h.
 
 -- the declarators of a declaration stand where its names are of its kind
 abbrev ShapeLeaves : Shape → List Item → Type 0
-ShapeLeaves Listed ts = Leaves ts
-ShapeLeaves (Stated b) ts = Leaves ts
-ShapeLeaves Chained ts = Leaves ts
+ShapeLeaves (Listed i) ts = Leaves ts
+ShapeLeaves (Stated i b) ts = Leaves ts
+ShapeLeaves (Chained i) ts = Leaves ts
 ShapeLeaves (Locals kind) ts = (w : List Item) → AreApart kinds.Variable false w → AreApart (names_of kind) false (ts ++ w)
 
 code_apart : {s : Shape} {ts : List Item} {c : Code} → Writes s ts c → ShapeLeaves s ts
@@ -180,6 +180,12 @@ code_apart (for p q r z {b} {ts} {us} {vs} {ws} first middle last s) = λ w h.
 code_apart (if_then p q r {b} {ts} {us} e s) = λ w h. (tt, (tt, closed false e (at r signs.Close) us w refl (λ b. (tt, code_apart s w h))))
 code_apart (if_else p q r z {b} {ts} {us} {vs} e s t) = λ w h.
     (tt, (tt, closed false e (at r signs.Close) (us ++ at z signs.Else ∷ vs) w refl (λ b. (tt, both us (at z signs.Else ∷ vs) (code_apart s) (λ v i. (tt, code_apart t v i)) w h))))
+code_apart (do_while p q r s t {b} {ts} {us} {x} l e) = λ w h.
+    let tail : List Item = at q signs.While ∷ at r signs.Open ∷ x ∷ (us ++ at s signs.Close ∷ at t signs.Semicolon ∷ []) in
+    (tt, both ts tail (code_apart l) (λ v i. (tt, (tt, closed false e (at s signs.Close) (at t signs.Semicolon ∷ []) v refl (λ c. (tt, (tt, i)))))) w h)
+code_apart (break p q) = λ w h. (tt, (tt, h))
+code_apart (continue p q) = λ w h. (tt, (tt, h))
+code_apart (return p q e) = λ w h. (tt, closed false e (at q signs.Semicolon) [] w refl (λ b. (tt, h)))
 
 -- ---- declarations
 
@@ -237,10 +243,6 @@ declared_apart (elif_part p n gs {us} {vs} a b) = λ w h. ((refl, refl), both us
 
 -- ---- files
 
-return_apart : {ts : List Item} {c : Code} → Returns ts c → Leaves ts
-return_apart no_return = λ w h. h
-return_apart (return p q r n) = λ w h. (tt, (tt, (tt, h)))
-
 gap_apart : {s : Gap} {ts : List Item} → Empty s ts → Leaves ts
 gap_apart no_more = λ w h. h
 gap_apart (empty_section p n {us} {vs} {ws} a b d) = λ w h. ((refl, refl), both us (vs ++ ws) (gap_apart a) (both vs ws (gap_apart b) (gap_apart d)) w h)
@@ -249,7 +251,7 @@ gap_apart (empty_else p q {us} a) = λ w h. ((refl, refl), both us (at q signs.G
 gap_apart (empty_elif p n {us} {vs} a b) = λ w h. ((refl, refl), both us vs (gap_apart a) (gap_apart b) w h)
 
 body_apart : {ts : List Item} {c : Code} {p : Place} → Body ts c p → Leaves ts
-body_apart (body p {us} {vs} {ws} s r e) = both us (vs ++ at p signs.RightBrace ∷ ws) (code_apart s) (both vs (at p signs.RightBrace ∷ ws) (return_apart r) (λ w h. (tt, gap_apart e w h)))
+body_apart (body p {us} {vs} s e) = both us (at p signs.RightBrace ∷ vs) (code_apart s) (λ w h. (tt, gap_apart e w h))
 
 main_apart : {ts : List Item} {c : Code} {p : Place} → Main ts c p → Leaves ts
 main_apart (main q r s t u {ts} {us} {vs} y o b) =

@@ -10,8 +10,8 @@ use Rattle.c_grammar.specs.declared.items.Sign.{Sign}
 use Rattle.c_grammar.specs.declared.items.Sign.TheVariants as signs
 use Rattle.c_grammar.specs.Statics.{static_behind}
 use Rattle.c_grammar.specs.Scopes.{IsBeside, AreBeside, DirectivesStandBeside}
-use Rattle.c_grammar.specs.Grammar.{at, Begins, only_type, then_type, enumeration, Ending, variables_end, constants_end, enumeration_end, comma_end, Qualifier, Part, Outer, Vars, Later, Declares, nothing, variables, prototype, void_prototype, definition, section, last_var, next_var, end_part, else_part, elif_part, Shape, Listed, Stated, Chained, Locals, Writes, none, more, choice, local, static_local, last_local, next_local, ends, otherwise, elif, change, call, void_call, assert, skip, block, while, for, if_then, if_else, Gap, Empty, no_more, empty_section, empty_end, empty_else, empty_elif, Body, body, Main, main, file, is_group}
-use Rattle.c_grammar.proofs.Quiet.{is_quiet, AreQuiet, expr_quiet, function_quiet, change_quiet, clause_quiet, tests_quiet, optional_quiet, type_quiet, qualified_quiet, locals_quiet, declarator_quiet, extern_quiet, definition_quiet, return_quiet}
+use Rattle.c_grammar.specs.Grammar.{at, Begins, only_type, then_type, enumeration, Ending, variables_end, constants_end, enumeration_end, comma_end, Qualifier, Part, Outer, Vars, Later, Declares, nothing, variables, prototype, void_prototype, definition, section, last_var, next_var, end_part, else_part, elif_part, Shape, Listed, Stated, Chained, Locals, Writes, none, more, choice, local, static_local, last_local, next_local, ends, otherwise, elif, change, call, void_call, assert, skip, block, while, for, if_then, if_else, do_while, break, continue, return, Gap, Empty, no_more, empty_section, empty_end, empty_else, empty_elif, Body, body, Main, main, file, is_group}
+use Rattle.c_grammar.proofs.Quiet.{is_quiet, AreQuiet, expr_quiet, function_quiet, change_quiet, clause_quiet, tests_quiet, optional_quiet, type_quiet, qualified_quiet, locals_quiet, declarator_quiet, extern_quiet, definition_quiet, redo_quiet, return_quiet}
 
 -- ---- text with no directive
 
@@ -93,9 +93,9 @@ declared_beside (elif_part p n gs {us} {vs} a b) = λ w h. (refl, both us vs (de
 -- ---- statements
 
 abbrev ShapeLeaves : Shape → List Item → Type 0
-ShapeLeaves Listed ts = Leaves ts
-ShapeLeaves (Stated b) ts = Leaves ts
-ShapeLeaves Chained ts = Leaves ts
+ShapeLeaves (Listed i) ts = Leaves ts
+ShapeLeaves (Stated i b) ts = Leaves ts
+ShapeLeaves (Chained i) ts = Leaves ts
 ShapeLeaves (Locals kind) ts = Unit {0}
 
 code_beside : {s : Shape} {ts : List Item} {c : Code} → Writes s ts c → ShapeLeaves s ts
@@ -127,6 +127,12 @@ code_beside (if_then p q r {b} {ts} {us} e s) = λ w h. (tt, (tt, both ts (at r 
 code_beside (if_else p q r z {b} {ts} {us} {vs} e s t) = λ w h.
     let branches : Leaves (us ++ at z signs.Else ∷ vs) = both us (at z signs.Else ∷ vs) (code_beside s) (λ v i. (tt, code_beside t v i)) in
     (tt, (tt, both ts (at r signs.Close ∷ (us ++ at z signs.Else ∷ vs)) (quiet_leaves ts (expr_quiet e)) (λ v i. (tt, branches v i)) w h))
+code_beside (do_while p q r s t {b} {ts} {us} {x} l e) = λ w h.
+    let tail : List Item = at q signs.While ∷ at r signs.Open ∷ x ∷ (us ++ at s signs.Close ∷ at t signs.Semicolon ∷ []) in
+    (tt, both ts tail (code_beside l) (quiet_leaves tail (redo_quiet q r s t e)) w h)
+code_beside (break p q) = λ w h. (tt, (tt, h))
+code_beside (continue p q) = λ w h. (tt, (tt, h))
+code_beside (return p q {ts} e) = quiet_leaves (at p signs.Return ∷ (ts ++ at q signs.Semicolon ∷ [])) (return_quiet p q e)
 
 -- ---- files
 
@@ -138,7 +144,7 @@ gap_beside (empty_else p q {us} a) = λ w h. (refl, both us (at q signs.GroupEnd
 gap_beside (empty_elif p n {us} {vs} a b) = λ w h. (refl, both us vs (gap_beside a) (gap_beside b) w h)
 
 body_beside : {ts : List Item} {c : Code} {p : Place} → Body ts c p → Leaves ts
-body_beside (body p {us} {vs} {ws} s r e) = both us (vs ++ at p signs.RightBrace ∷ ws) (code_beside s) (both vs (at p signs.RightBrace ∷ ws) (quiet_leaves vs (return_quiet r)) (λ w h. (tt, gap_beside e w h)))
+body_beside (body p {us} {vs} s e) = both us (at p signs.RightBrace ∷ vs) (code_beside s) (λ w h. (tt, gap_beside e w h))
 
 main_beside : {ts : List Item} {c : Code} {p : Place} → Main ts c p → Leaves ts
 main_beside (main q r s t u {ts} {us} {vs} y o b) =

@@ -1,14 +1,14 @@
 -- Whatever is open can be closed.
-use Rattle.std.proofs.Common.{◌≡◌, ℕ, ℤ, pos, neg_ℤ, suc, List, [], ◌∷◌, Ok, refl, sym, ◌∙◌}
+use Rattle.std.proofs.Common.{◌≡◌, ℕ, ℤ, pos, neg_ℤ, suc, List, [], ◌∷◌, Ok, refl, ◌∙◌}
 use Rattle.fam_outer.specs.declared.faults.Place.{Place}
 use Rattle.c_tree.specs.declared.lists.Declared.{Declared}
-use Rattle.c_tree.specs.Tree.{Term, Number, Var, Binary, Code, Done, Assign, Assert, If, While, Block, Skip, Cond, followed}
+use Rattle.c_tree.specs.Tree.{Term, Number, Var, Binary, Return, Code, Done, Assign, Assert, If, While, Do, Leave, Block, Skip, Cond, followed}
 use Rattle.c_grammar.specs.declared.items.Sign.TheVariants as signs
 use Rattle.c_grammar.specs.declared.items.Item.{Item}
 use Rattle.c_grammar.specs.Grammar.{at, tighter, applied, updated, changed_by_one, Qualifier, Unqualified, Constant, Counted, uncounted, File, file_of}
 use Rattle.c_grammar.specs.Ahead.{Loose, NoElse}
-use Rattle.c_grammar.specs.Machine.{Tailing, Another, Final, Frame, Paren, Pre, Left, Stack, Top, Braces, Yes, No, ThenOf, ElseOf, LoopOf, AsStatement, AsStart, AsStep, Use, ToAssign, ToInitialise, ToUpdate, ToAssert, ToChoose, ToLoop, ToRepeat, Pending, OfStatement, OfLocal, Sections, Outermost, InPart, InLast, Aim, ToPrototype, ToMain, ReadingState, Outside, AfterStatic, AfterExtern, AfterConst, AfterEnum, AfterVoidType, AfterType, NoWord, StaticWord, ExternWord, ConstWord, Declaring, Bare, Starting, Negating, Started, Listing, Enumerated, AfterDefine, Defining, NegativeDefining, Enclosing, NegativeEnclosing, Enclosed, Parameters, InParameters, AfterVoid, AfterParameters, Ready, LocalConst, LocalType, NextLocal, LocalNamed, Ended, Wants, Has, Counting, Named, Opens, ForOpens, StartComes, TestComes, StepComes, VoidComes, VoidCloses, CallComes, CallOpens, CallCloses, Finishing, Returning, Returned, Closing, Over, with_declared, folded, linked, run, InStatic, BehindStatic, BehindStaticConst, BehindStaticType, BeforeStaticName, BehindStaticName, BehindStaticEquals, BehindStaticMinus, BehindStaticNumber, StaticPart}
-use Rattle.c_grammar.proofs.Complete.{pre_absorbs, left_absorbs, loop_absorbs, else_absorbs, then_absorbs, folds}
+use Rattle.c_grammar.specs.Machine.{Tailing, Another, Final, Frame, Paren, Pre, Left, Stack, Top, Braces, Yes, No, ThenOf, ElseOf, LoopOf, DoOf, AsStatement, AsStart, AsStep, Use, ToAssign, ToInitialise, ToUpdate, ToAssert, ToChoose, ToLoop, ToRepeat, ToRedo, ToReturn, Pending, OfStatement, OfLocal, Sections, Outermost, InPart, InLast, Aim, ToPrototype, ToMain, ReadingState, Outside, AfterStatic, AfterExtern, AfterConst, AfterEnum, AfterVoidType, AfterType, NoWord, StaticWord, ExternWord, ConstWord, Declaring, Bare, Starting, Negating, Started, Listing, Enumerated, AfterDefine, Defining, NegativeDefining, Enclosing, NegativeEnclosing, Enclosed, Parameters, InParameters, AfterVoid, AfterParameters, Ready, LocalConst, LocalType, NextLocal, LocalNamed, Ended, Wants, Has, Counting, Named, Opens, ForOpens, StartComes, TestComes, StepComes, RedoOpens, RedoComes, VoidComes, VoidCloses, CallComes, CallOpens, CallCloses, Finishing, Over, with_declared, folded, linked, run, InStatic, BehindStatic, BehindStaticConst, BehindStaticType, BeforeStaticName, BehindStaticName, BehindStaticEquals, BehindStaticMinus, BehindStaticNumber, StaticPart}
+use Rattle.c_grammar.proofs.Complete.{pre_absorbs, left_absorbs, loop_absorbs, else_absorbs, then_absorbs}
 
 pub nowhere : Place
 nowhere = record { line = 0; column = 0 }
@@ -21,6 +21,7 @@ closers (No links n first made outer) = at nowhere signs.GroupEnd ∷ closers ou
 closers (ThenOf p e outer) = closers outer
 closers (ElseOf p e first outer) = closers outer
 closers (LoopOf start p e advance outer) = closers outer
+closers (DoOf p outer) = at nowhere signs.While ∷ at nowhere signs.Open ∷ at nowhere (signs.Name 0) ∷ at nowhere signs.Close ∷ at nowhere signs.Semicolon ∷ closers outer
 
 pub closers_no_else : (outer : Stack) → NoElse (closers outer)
 unfolding closers
@@ -31,6 +32,7 @@ closers_no_else (No links n first made outer) = tt
 closers_no_else (ThenOf p e outer) = closers_no_else outer
 closers_no_else (ElseOf p e first outer) = closers_no_else outer
 closers_no_else (LoopOf start p e advance outer) = closers_no_else outer
+closers_no_else (DoOf p outer) = tt
 
 closes : (outer : Stack) (c : Code) → (made : File) × (run (Ended outer c) (closers outer) ≡ Ok made)
 unfolding closers run
@@ -41,14 +43,16 @@ closes (No links n first made outer) c = closes outer (linked links (Cond n firs
 closes (ThenOf p e outer) c = let h = closes outer (If p e c Done Done) in (h.0, then_absorbs p e outer c (closers outer) (closers_no_else outer) ∙ h.1)
 closes (ElseOf p e first outer) c = let h = closes outer (If p e first c Done) in (h.0, else_absorbs p e first outer c (closers outer) ∙ h.1)
 closes (LoopOf start p e advance outer) c = let h = closes outer (followed start (While p e advance c Done)) in (h.0, loop_absorbs start p e advance outer c (closers outer) ∙ h.1)
-
--- behind a declaration
-closes_list : (outer : Stack) (c : Code) → (made : File) × (run (Ready (folded outer c)) (closers outer) ≡ Ok made)
-closes_list outer c = let h = closes outer c in (h.0, sym (folds outer c (closers outer) (closers_no_else outer)) ∙ h.1)
+closes (DoOf p outer) c = closes outer (Do p c nowhere (Var 0) Done)
 
 -- the rest of a file
 abbrev Rest : ReadingState → Type 0
 Rest state = (tail : List Item) × (made : File) × (run state tail ≡ Ok made)
+
+-- where a statement may begin
+closes_ready : (outer : Stack) → Rest (Ready outer)
+unfolding run
+closes_ready outer = let h = closes outer (Skip nowhere Done) in (at nowhere signs.Semicolon ∷ closers outer, h.0, h.1)
 
 -- behind the parentheses of a `for`, and in them
 closes_loop : (start : Code) (p : Place) (e : Term) (advance : Code) (outer : Stack) → Rest (Ready (LoopOf start p e advance outer))
@@ -72,7 +76,7 @@ unfolding run
 closes_pending (OfStatement (AsStatement outer) c) = let h = closes outer c in (at nowhere signs.Semicolon ∷ closers outer, h.0, h.1)
 closes_pending (OfStatement (AsStart outer) c) = let h = closes_test c outer in (at nowhere signs.Semicolon ∷ h.0, h.1, h.2)
 closes_pending (OfStatement (AsStep start p e outer) c) = let h = closes_loop start p e c outer in (at nowhere signs.Close ∷ h.0, h.1, h.2)
-closes_pending (OfLocal kind outer c) = let h = closes_list outer c in (at nowhere signs.Semicolon ∷ closers outer, h.0, h.1)
+closes_pending (OfLocal kind outer c) = let h = closes_ready (folded outer c) in (at nowhere signs.Semicolon ∷ h.0, h.1, h.2)
 
 record CanEnd (state : ReadingState) : Type 0 where
   pub tail : List Item
@@ -85,7 +89,7 @@ unfolding run
 ends_use (ToAssign p x (AsStatement outer)) e = let h = closes outer (Assign p x e Done) in record { tail = at nowhere signs.Semicolon ∷ closers outer; made = h.0; reads = h.1; tight = λ k. tt }
 ends_use (ToAssign p x (AsStart outer)) e = let h = closes_test (Assign p x e Done) outer in record { tail = at nowhere signs.Semicolon ∷ h.0; made = h.1; reads = h.2; tight = λ k. tt }
 ends_use (ToAssign p x (AsStep start q f outer)) e = let h = closes_loop start q f (Assign p x e Done) outer in record { tail = at nowhere signs.Close ∷ h.0; made = h.1; reads = h.2; tight = λ k. tt }
-ends_use (ToInitialise kind p x outer) e = let h = closes_list outer (Assign p x e Done) in record { tail = at nowhere signs.Semicolon ∷ closers outer; made = h.0; reads = h.1; tight = λ k. tt }
+ends_use (ToInitialise kind p x outer) e = let h = closes_ready (folded outer (Assign p x e Done)) in record { tail = at nowhere signs.Semicolon ∷ h.0; made = h.1; reads = h.2; tight = λ k. tt }
 ends_use (ToUpdate p x u (AsStatement outer)) e = let h = closes outer (updated p x u e) in record { tail = at nowhere signs.Semicolon ∷ closers outer; made = h.0; reads = h.1; tight = λ k. tt }
 ends_use (ToUpdate p x u (AsStart outer)) e = let h = closes_test (updated p x u e) outer in record { tail = at nowhere signs.Semicolon ∷ h.0; made = h.1; reads = h.2; tight = λ k. tt }
 ends_use (ToUpdate p x u (AsStep start q f outer)) e = let h = closes_loop start q f (updated p x u e) outer in record { tail = at nowhere signs.Close ∷ h.0; made = h.1; reads = h.2; tight = λ k. tt }
@@ -93,6 +97,8 @@ ends_use (ToAssert p outer) e = let h = closes outer (Assert p e Done) in record
 ends_use (ToChoose p outer) e = let h = closes (ThenOf p e outer) (Skip nowhere Done) in record { tail = at nowhere signs.Close ∷ at nowhere signs.Semicolon ∷ closers (ThenOf p e outer); made = h.0; reads = h.1; tight = λ k. tt }
 ends_use (ToLoop p outer) e = let h = closes_loop Done p e Done outer in record { tail = at nowhere signs.Close ∷ h.0; made = h.1; reads = h.2; tight = λ k. tt }
 ends_use (ToRepeat start p outer) e = let h = closes_step start p e outer in record { tail = at nowhere signs.Semicolon ∷ h.0; made = h.1; reads = h.2; tight = λ k. tt }
+ends_use (ToRedo p c q outer) e = let h = closes outer (Do p c q e Done) in record { tail = at nowhere signs.Close ∷ at nowhere signs.Semicolon ∷ closers outer; made = h.0; reads = h.1; tight = λ k. tt }
+ends_use (ToReturn p outer) e = let h = closes outer (Leave p (Return e) Done) in record { tail = at nowhere signs.Semicolon ∷ closers outer; made = h.0; reads = h.1; tight = λ k. tt }
 
 ends_expr : (fs : List Frame) (u : Use) (e : Term) → CanEnd (Has fs u e)
 unfolding run
@@ -104,7 +110,7 @@ ends_expr (Left op a ∷ fs) u e = let h = ends_expr fs u (Binary op a e) in rec
 -- behind the name of a declarator in `main`
 after_name : (kind : Qualifier) (p : Place) (x : ℕ) (outer : Stack) → Rest (LocalNamed kind p x outer)
 unfolding run
-after_name kind p x outer = let h = closes_list outer (Assign p x (Var 0) Done) in (at nowhere signs.Equals ∷ at nowhere (signs.Name 0) ∷ at nowhere signs.Semicolon ∷ closers outer, h.0, h.1)
+after_name kind p x outer = let h = closes_ready (folded outer (Assign p x (Var 0) Done)) in (at nowhere signs.Equals ∷ at nowhere (signs.Name 0) ∷ at nowhere signs.Semicolon ∷ h.0, h.1, h.2)
 
 after_declarations : (secs : Sections) (ds : List Declared) → Rest (Outside secs ds)
 unfolding run
@@ -128,11 +134,6 @@ unfolding run
 after_declarator Unqualified x n secs ds = let h = after_declarations secs (with_declared secs ds x n) in (at nowhere signs.Semicolon ∷ h.0, h.1, h.2)
 after_declarator Constant x n secs ds = let h = after_declarations secs (with_declared secs ds x n) in (at nowhere signs.Semicolon ∷ h.0, h.1, h.2)
 after_declarator (Counted last) x n secs ds = let h = after_declarations secs (with_declared secs ds x n) in (at nowhere signs.RightBrace ∷ at nowhere signs.Semicolon ∷ h.0, h.1, h.2)
-
--- where a statement may begin
-closes_ready : (outer : Stack) → Rest (Ready outer)
-unfolding run
-closes_ready outer = let h = closes outer (Skip nowhere Done) in (at nowhere signs.Semicolon ∷ closers outer, h.0, h.1)
 
 -- in a static declaration of `main`
 after_static : (part : StaticPart) (outer : Stack) → Rest (InStatic part outer)
@@ -195,13 +196,12 @@ completes (ForOpens outer) = let h = closes_start outer in (at nowhere signs.Ope
 completes (StartComes outer) = closes_start outer
 completes (TestComes start outer) = closes_test start outer
 completes (StepComes start p e outer) = closes_step start p e outer
+completes (RedoOpens p c outer) = let h = closes outer (Do p c nowhere (Var 0) Done) in (at nowhere signs.Open ∷ at nowhere (signs.Name 0) ∷ at nowhere signs.Close ∷ at nowhere signs.Semicolon ∷ closers outer, h.0, h.1)
+completes (RedoComes p c outer) = let h = closes outer (Do p c nowhere (Var 0) Done) in (at nowhere (signs.Name 0) ∷ at nowhere signs.Close ∷ at nowhere signs.Semicolon ∷ closers outer, h.0, h.1)
 completes (VoidComes p outer) = let h = closes outer (Skip p Done) in (at nowhere signs.Void ∷ at nowhere signs.Close ∷ at nowhere signs.Input ∷ at nowhere signs.Open ∷ at nowhere signs.Close ∷ at nowhere signs.Semicolon ∷ closers outer, h.0, h.1)
 completes (VoidCloses p outer) = let h = closes outer (Skip p Done) in (at nowhere signs.Close ∷ at nowhere signs.Input ∷ at nowhere signs.Open ∷ at nowhere signs.Close ∷ at nowhere signs.Semicolon ∷ closers outer, h.0, h.1)
 completes (CallComes p outer) = let h = closes outer (Skip p Done) in (at nowhere signs.Input ∷ at nowhere signs.Open ∷ at nowhere signs.Close ∷ at nowhere signs.Semicolon ∷ closers outer, h.0, h.1)
 completes (CallOpens made) = let h = closes_pending made in (at nowhere signs.Open ∷ at nowhere signs.Close ∷ h.0, h.1, h.2)
 completes (CallCloses made) = let h = closes_pending made in (at nowhere signs.Close ∷ h.0, h.1, h.2)
 completes (Finishing made) = closes_pending made
-completes (Returning p ds made) = (at nowhere (signs.Number (pos 0)) ∷ at nowhere signs.Semicolon ∷ at nowhere signs.RightBrace ∷ [], file_of ds (followed made (Skip p Done)) nowhere, refl)
-completes (Returned ds made) = (at nowhere signs.Semicolon ∷ at nowhere signs.RightBrace ∷ [], file_of ds made nowhere, refl)
-completes (Closing ds made) = (at nowhere signs.RightBrace ∷ [], file_of ds made nowhere, refl)
 completes (Over f parts) = after_groups f parts

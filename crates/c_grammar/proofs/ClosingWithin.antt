@@ -3,12 +3,12 @@
 use Rattle.std.proofs.Common.{◌≡◌, ℕ, ℤ, pos, neg_ℤ, suc, ◌≤◌, List, [], ◌∷◌, Some, Ok, refl, subst, ◌∙◌, arith}
 use Rattle.fam_outer.specs.declared.faults.Place.{Place}
 use Rattle.c_tree.specs.declared.lists.Declared.{Declared}
-use Rattle.c_tree.specs.Tree.{Term, Number, Var, Binary, Code, Done, Assign, Assert, If, While, Block, Skip, Cond, followed}
+use Rattle.c_tree.specs.Tree.{Term, Number, Var, Binary, Return, Code, Done, Assign, Assert, If, While, Do, Leave, Block, Skip, Cond, followed}
 use Rattle.c_grammar.specs.declared.items.Sign.TheVariants as signs
 use Rattle.c_grammar.specs.declared.items.Item.{Item}
 use Rattle.c_grammar.specs.Grammar.{at, tighter, applied, updated, changed_by_one, Raise, Qualifier, Unqualified, Constant, Counted, uncounted, File, file_of}
 use Rattle.c_grammar.specs.Ahead.{Loose, NoElse}
-use Rattle.c_grammar.specs.Machine.{Tailing, Another, Final, Frame, Paren, Pre, Left, Stack, Top, Braces, Yes, No, ThenOf, ElseOf, LoopOf, Site, AsStatement, AsStart, AsStep, Use, ToAssign, ToInitialise, ToUpdate, ToAssert, ToChoose, ToLoop, ToRepeat, Pending, OfStatement, OfLocal, Sections, Outermost, InPart, InLast, Aim, ToPrototype, ToMain, ReadingState, Outside, AfterStatic, AfterExtern, AfterConst, AfterEnum, AfterVoidType, AfterType, NoWord, StaticWord, ExternWord, ConstWord, Declaring, Bare, Starting, Negating, Started, Listing, Enumerated, AfterDefine, Defining, NegativeDefining, Enclosing, NegativeEnclosing, Enclosed, Parameters, InParameters, AfterVoid, AfterParameters, Ready, LocalConst, LocalType, NextLocal, LocalNamed, Ended, Wants, Has, Counting, Named, Opens, ForOpens, StartComes, TestComes, StepComes, VoidComes, VoidCloses, CallComes, CallOpens, CallCloses, Finishing, Returning, Returned, Closing, Over, with_declared, folded, linked, step, StaticPart, InStatic, BehindStatic, BehindStaticConst, BehindStaticType, BeforeStaticName, BehindStaticName, BehindStaticEquals, BehindStaticMinus, BehindStaticNumber}
+use Rattle.c_grammar.specs.Machine.{Tailing, Another, Final, Frame, Paren, Pre, Left, Stack, Top, Braces, Yes, No, ThenOf, ElseOf, LoopOf, DoOf, Site, AsStatement, AsStart, AsStep, Use, ToAssign, ToInitialise, ToUpdate, ToAssert, ToChoose, ToLoop, ToRepeat, ToRedo, ToReturn, Pending, OfStatement, OfLocal, Sections, Outermost, InPart, InLast, Aim, ToPrototype, ToMain, ReadingState, Outside, AfterStatic, AfterExtern, AfterConst, AfterEnum, AfterVoidType, AfterType, NoWord, StaticWord, ExternWord, ConstWord, Declaring, Bare, Starting, Negating, Started, Listing, Enumerated, AfterDefine, Defining, NegativeDefining, Enclosing, NegativeEnclosing, Enclosed, Parameters, InParameters, AfterVoid, AfterParameters, Ready, LocalConst, LocalType, NextLocal, LocalNamed, Ended, Wants, Has, Counting, Named, Opens, ForOpens, StartComes, TestComes, StepComes, RedoOpens, RedoComes, VoidComes, VoidCloses, CallComes, CallOpens, CallCloses, Finishing, Over, with_declared, folded, linked, step, StaticPart, InStatic, BehindStatic, BehindStaticConst, BehindStaticType, BeforeStaticName, BehindStaticName, BehindStaticEquals, BehindStaticMinus, BehindStaticNumber}
 use Rattle.c_grammar.specs.Deep.{guarded}
 use Rattle.c_grammar.proofs.Complete.{pre_step, left_step, loop_step, else_step, then_step}
 use Rattle.c_grammar.proofs.Closing.{nowhere, closers, closers_no_else}
@@ -31,6 +31,7 @@ closes (LoopOf start p e advance outer) c n =
     let made : Code = followed start (While p e advance c Done) in
     let h = closes outer made n in
     (h.0, same_within (Ended (LoopOf start p e advance outer) c) (Ended outer made) n refl refl refl refl (closers outer) (λ x y is. loop_step start p e advance outer c x.place x.sign) ∙ h.1)
+closes (DoOf p outer) c n = closes outer (Do p c nowhere (Var 0) Done) 0
 
 -- the rest of a file within the limits
 abbrev pub Rest : ReadingState → ℕ → Type 0
@@ -91,6 +92,13 @@ ends_use (ToRepeat start p outer) e n few =
     let h = closes loop (Skip nowhere Done) 0 in
     let text : List Item = at nowhere signs.Close ∷ at nowhere signs.Semicolon ∷ closers loop in
     record { tail = at nowhere signs.Semicolon ∷ text; made = h.0; reads = takes (Has [] (ToRepeat start p outer) e) (StepComes start p e outer) nowhere signs.Semicolon n n text refl refl refl few ∙ h.1; tight = λ k. tt }
+ends_use (ToRedo p c q outer) e n few =
+    let h = closes outer (Do p c q e Done) 0 in
+    let text : List Item = at nowhere signs.Semicolon ∷ closers outer in
+    record { tail = at nowhere signs.Close ∷ text; made = h.0; reads = takes (Has [] (ToRedo p c q outer) e) (Finishing (OfStatement (AsStatement outer) (Do p c q e Done))) nowhere signs.Close n n text refl refl refl few ∙ h.1; tight = λ k. tt }
+ends_use (ToReturn p outer) e n few =
+    let h = closes outer (Leave p (Return e) Done) n in
+    record { tail = at nowhere signs.Semicolon ∷ closers outer; made = h.0; reads = takes (Has [] (ToReturn p outer) e) (Ended outer (Leave p (Return e) Done)) nowhere signs.Semicolon n n (closers outer) refl refl refl few ∙ h.1; tight = λ k. tt }
 
 ends_expr : (fs : List Frame) (u : Use) (e : Term) (n : ℕ) → n ≤ 64 → CanEnd (Has fs u e) n
 ends_expr [] u e n few = ends_use u e n few
@@ -207,13 +215,12 @@ goes_on_within (ForOpens outer) n few = let h = after_change (AsStart outer) Don
 goes_on_within (StartComes outer) n few = let h = after_change (AsStart outer) Done 0 in (at nowhere signs.Semicolon ∷ h.0, h.1, h.2)
 goes_on_within (TestComes start outer) n few = after_change (AsStart outer) start n
 goes_on_within (StepComes start p e outer) n few = let h = after_change (AsStep start p e outer) Done 0 in (at nowhere signs.Close ∷ h.0, h.1, h.2)
+goes_on_within (RedoOpens p c outer) n few = let h = closes outer (Do p c nowhere (Var 0) Done) 0 in (at nowhere signs.Open ∷ at nowhere (signs.Name 0) ∷ at nowhere signs.Close ∷ at nowhere signs.Semicolon ∷ closers outer, h.0, h.1)
+goes_on_within (RedoComes p c outer) n few = let h = closes outer (Do p c nowhere (Var 0) Done) 0 in (at nowhere (signs.Name 0) ∷ at nowhere signs.Close ∷ at nowhere signs.Semicolon ∷ closers outer, h.0, h.1)
 goes_on_within (VoidComes p outer) n few = let h = closes outer (Skip p Done) 0 in (at nowhere signs.Void ∷ at nowhere signs.Close ∷ at nowhere signs.Input ∷ at nowhere signs.Open ∷ at nowhere signs.Close ∷ at nowhere signs.Semicolon ∷ closers outer, h.0, h.1)
 goes_on_within (VoidCloses p outer) n few = let h = closes outer (Skip p Done) 0 in (at nowhere signs.Close ∷ at nowhere signs.Input ∷ at nowhere signs.Open ∷ at nowhere signs.Close ∷ at nowhere signs.Semicolon ∷ closers outer, h.0, h.1)
 goes_on_within (CallComes p outer) n few = let h = closes outer (Skip p Done) 0 in (at nowhere signs.Input ∷ at nowhere signs.Open ∷ at nowhere signs.Close ∷ at nowhere signs.Semicolon ∷ closers outer, h.0, h.1)
 goes_on_within (CallOpens made) n few = let h = closes_pending made 0 in (at nowhere signs.Open ∷ at nowhere signs.Close ∷ h.0, h.1, h.2)
 goes_on_within (CallCloses made) n few = let h = closes_pending made 0 in (at nowhere signs.Close ∷ h.0, h.1, h.2)
 goes_on_within (Finishing made) n few = closes_pending made n
-goes_on_within (Returning p ds made) n few = (at nowhere (signs.Number (pos 0)) ∷ at nowhere signs.Semicolon ∷ at nowhere signs.RightBrace ∷ [], file_of ds (followed made (Skip p Done)) nowhere, refl)
-goes_on_within (Returned ds made) n few = (at nowhere signs.Semicolon ∷ at nowhere signs.RightBrace ∷ [], file_of ds made nowhere, refl)
-goes_on_within (Closing ds made) n few = (at nowhere signs.RightBrace ∷ [], file_of ds made nowhere, refl)
 goes_on_within (Over f parts) n few = after_groups f parts n

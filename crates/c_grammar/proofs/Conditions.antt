@@ -5,13 +5,13 @@ use Rattle.std.proofs.lemmas.List.Elements.{All-append, All-cons, All-nil}
 use Rattle.fam_outer.specs.declared.faults.Place.{Place}
 use Rattle.c_tree.specs.declared.lists.Guard.{Guard}
 use Rattle.c_tree.specs.declared.lists.Declared.{Declared}
-use Rattle.c_tree.specs.Tree.{Code, Done, Assign, Input, Assert, If, While, Block, Skip, Cond, followed}
+use Rattle.c_tree.specs.Tree.{Code, Done, Assign, Input, Assert, If, While, Do, Leave, Block, Skip, Cond, followed}
 use Rattle.c_tree.specs.Project.{IsNumbered, IsGuarded, IsConditioned}
 use Rattle.c_grammar.specs.Statics.{statics_by}
 use Rattle.c_grammar.proofs.HeldStatics.{statics_guarded}
 use Rattle.c_grammar.specs.declared.items.Item.{Item}
 use Rattle.c_grammar.specs.declared.items.Sign.TheVariants as signs
-use Rattle.c_grammar.specs.Grammar.{at, Changes, assignment, input_taken, compound_assignment, count_behind, count_before, Clause, no_clause, clause, Qualifier, LocalDeclarator, uninitialised, initialised, from_call, Shape, Writes, none, more, choice, local, static_local, last_local, next_local, ends, otherwise, elif, change, call, void_call, assert, skip, block, while, for, if_then, if_else, declared, Part, Outer, Vars, Later, Declares, nothing, variables, prototype, void_prototype, definition, section, last_var, next_var, end_part, else_part, elif_part, Returns, no_return, return, Body, body, Main, main, File, Forms, file, has_groups, held_of, whole_of}
+use Rattle.c_grammar.specs.Grammar.{at, Changes, assignment, input_taken, compound_assignment, count_behind, count_before, Clause, no_clause, clause, Qualifier, LocalDeclarator, uninitialised, initialised, from_call, Shape, Writes, none, more, choice, local, static_local, last_local, next_local, ends, otherwise, elif, change, call, void_call, assert, skip, block, while, for, if_then, if_else, do_while, break, continue, return, declared, Part, Outer, Vars, Later, Declares, nothing, variables, prototype, void_prototype, definition, section, last_var, next_var, end_part, else_part, elif_part, Body, body, Main, main, File, Forms, file, has_groups, held_of, whole_of}
 use Rattle.c_grammar.specs.Facts.{AreConditionsOf, Conditioned}
 
 cut : (n : ℕ) (xs ys : List Item) → AreConditionsOf n (xs ++ ys) → AreConditionsOf n xs × AreConditionsOf n ys
@@ -25,6 +25,8 @@ followed_numbered n (Input p x rest) d h i = followed_numbered n rest d h i
 followed_numbered n (Assert p e rest) d h i = followed_numbered n rest d h i
 followed_numbered n (If p e a b rest) d h i = (h.0, h.1, followed_numbered n rest d h.2 i)
 followed_numbered n (While p e a b rest) d h i = (h.0, h.1, followed_numbered n rest d h.2 i)
+followed_numbered n (Do p a q e rest) d h i = (h.0, followed_numbered n rest d h.1 i)
+followed_numbered n (Leave p j rest) d h i = followed_numbered n rest d h i
 followed_numbered n (Block p a rest) d h i = (h.0, followed_numbered n rest d h.1 i)
 followed_numbered n (Skip p rest) d h i = followed_numbered n rest d h i
 followed_numbered n (Cond m a b rest) d h i = (h.0, h.1, h.2, followed_numbered n rest d h.3 i)
@@ -71,6 +73,10 @@ code_numbered n (if_then p q r {b} {ts} {us} e s) h = (code_numbered n s (cut n 
 code_numbered n (if_else p q r z {b} {ts} {us} {vs} e s t) h =
     let k = cut n us (at z signs.Else ∷ vs) (cut n ts (at r signs.Close ∷ (us ++ at z signs.Else ∷ vs)) h.1.1).1.1 in
     (code_numbered n s k.0, code_numbered n t k.1.1, tt)
+code_numbered n (do_while p q r s t {b} {ts} {us} {x} l e) h = (code_numbered n l (cut n ts (at q signs.While ∷ at r signs.Open ∷ x ∷ (us ++ at s signs.Close ∷ at t signs.Semicolon ∷ [])) h.1).0, tt)
+code_numbered n (break p q) h = tt
+code_numbered n (continue p q) h = tt
+code_numbered n (return p q e) h = tt
 
 -- guards with conditions below a count
 abbrev IsBelow : ℕ → Guard → Type 0
@@ -108,12 +114,8 @@ declared_numbered n (elif_part p m gs {us} {vs} {cs} {ds} a b) g h =
     let k = cut n us vs h.1 in
     All-append (IsGuarded n) cs ds (declared_numbered n a (more_guards n m true gs h.0 g) k.0) (declared_numbered n b (more_guards n m false gs h.0 g) k.1)
 
-return_numbered : {ts : List Item} {c : Code} (n : ℕ) → Returns ts c → IsNumbered n c
-return_numbered n no_return = tt
-return_numbered n (return p q r v) = tt
-
 body_numbered : {ts : List Item} {c : Code} {p : Place} (n : ℕ) → Body ts c p → AreConditionsOf n ts → IsNumbered n c
-body_numbered n (body p {us} {vs} {ws} {c} {d} s r e) h = followed_numbered n c d (code_numbered n s (cut n us (vs ++ at p signs.RightBrace ∷ ws) h).0) (return_numbered n r)
+body_numbered n (body p {us} {vs} s e) h = code_numbered n s (cut n us (at p signs.RightBrace ∷ vs) h).0
 
 main_numbered : {ts : List Item} {c : Code} {p : Place} (n : ℕ) → Main ts c p → AreConditionsOf n ts → IsNumbered n c
 main_numbered n (main q r s t u {ts} {us} {vs} y o b) h =

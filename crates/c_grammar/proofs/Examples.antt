@@ -4,7 +4,7 @@ use Rattle.fam_outer.specs.declared.faults.Place.{Place}
 use Rattle.c_tree.specs.declared.tree.Op.{Op}
 use Rattle.c_tree.specs.declared.tree.Op.TheVariants.{Add, Sub, Mul, Div, Rem, Lt, Le, Gt, Ge, Eq, Ne, And, Or}
 use Rattle.c_tree.specs.declared.lists.Guard.{Guard}
-use Rattle.c_tree.specs.Tree.{Number, Var, Neg, Not, Binary, Done, Assign, Input, Assert, If, While, Block, Skip, Cond}
+use Rattle.c_tree.specs.Tree.{Number, Var, Neg, Not, Binary, Return, Done, Assign, Input, Assert, If, While, Leave, Block, Skip, Cond}
 use Rattle.c_grammar.specs.declared.items.Item.{Item}
 use Rattle.c_grammar.specs.declared.items.Sign.{Sign}
 use Rattle.c_grammar.specs.declared.items.Sign.TheVariants as signs
@@ -226,7 +226,7 @@ group_between_declarators = refl
 
 -- int main ( ) { x += 2 * y - 1 ; return 0 ; }
 updated_by_an_expression : run start (items (head ++ signs.Name 0 ∷ signs.PlusEquals ∷ signs.Number (pos 2) ∷ signs.Oper Mul ∷ signs.Name 1 ∷ signs.Oper Sub ∷ signs.Number (pos 1) ∷ signs.Semicolon ∷ signs.Return ∷ signs.Number (pos 0) ∷ signs.Semicolon ∷ signs.RightBrace ∷ []))
-    ≡ Ok (file_of [] (Assign (place 5) 0 (Binary Add (Var 0) (Binary Sub (Binary Mul (Number (pos 2)) (Var 1)) (Number (pos 1)))) (Skip (place 13) Done)) (place 16))
+    ≡ Ok (file_of [] (Assign (place 5) 0 (Binary Add (Var 0) (Binary Sub (Binary Mul (Number (pos 2)) (Var 1)) (Number (pos 1)))) (Leave (place 13) (Return (Number (pos 0))) Done)) (place 16))
 unfolding run
 updated_by_an_expression = refl
 
@@ -429,7 +429,7 @@ unfolding run
 wrong_end = refl
 
 -- so many signs in front
-in_front : ℕ → Sign → List Sign → List Sign
+unfoldable pub in_front : ℕ → Sign → List Sign → List Sign
 in_front zero s rest = rest
 in_front (suc n) s rest = s ∷ in_front n s rest
 

@@ -6,14 +6,13 @@ use Rattle.fam_outer.specs.declared.faults.Place.{Place}
 use Rattle.c_tree.specs.declared.lists.Guard.{Guard}
 use Rattle.c_tree.specs.declared.lists.Declared.{Declared}
 use Rattle.c_tree.specs.Value.{greatest}
-use Rattle.c_tree.specs.Tree.{Code, Done, followed}
+use Rattle.c_tree.specs.Tree.{Code, Done}
 use Rattle.c_grammar.specs.declared.items.Sign.{Sign}
 use Rattle.c_grammar.specs.declared.items.Sign.TheVariants as signs
 use Rattle.c_grammar.specs.declared.items.Item.{Item}
-use Rattle.c_grammar.specs.Grammar.{at, Optional, absent, present, Typed, int, int32, signed, signed_int, int_signed, Qualifier, Unqualified, Constant, Counted, behind, unqualified, const_before, const_behind, Begins, only_type, then_type, enumeration, Declarator, bare, positive, negative, counted, Ending, variables_end, constants_end, enumeration_end, comma_end, Defines, defined, negative_defined, enclosed, negative_enclosed, with_true, with_false, declared, Part, Outer, Vars, Later, Declares, nothing, variables, Callable, of_input, of_function, prototype, void_prototype, definition, section, last_var, next_var, end_part, else_part, elif_part, Returns, no_return, return, Gap, Gaps, GapRest, Empty, no_more, empty_section, empty_end, empty_else, empty_elif, Body, body, Main, main, File, file_of, Forms, file}
-use Rattle.c_grammar.specs.Ahead.{NoElse}
+use Rattle.c_grammar.specs.Grammar.{at, Optional, absent, present, Typed, int, int32, signed, signed_int, int_signed, Qualifier, Unqualified, Constant, Counted, behind, unqualified, const_before, const_behind, Begins, only_type, then_type, enumeration, Declarator, bare, positive, negative, counted, Ending, variables_end, constants_end, enumeration_end, comma_end, Defines, defined, negative_defined, enclosed, negative_enclosed, with_true, with_false, declared, Part, Outer, Vars, Later, Declares, nothing, variables, Callable, of_input, of_function, prototype, void_prototype, definition, section, last_var, next_var, end_part, else_part, elif_part, Gap, Gaps, GapRest, Empty, no_more, empty_section, empty_end, empty_else, empty_elif, Body, body, Main, main, File, file_of, Forms, file}
 use Rattle.c_grammar.specs.Machine.{Tailing, Another, Final, Top, Sections, Outermost, InPart, InLast, guards_of, Aim, ToPrototype, ToMain, ReadingState, Outside, AfterStatic, AfterExtern, AfterConst, AfterType, Leading, NoWord, StaticWord, ExternWord, ConstWord, TypeWords, OneInt, OneSigned, WholeType, Declaring, Parameters, AfterParameters, Ready, Over, with_declared, run, start, Bare, Started, Listing, listed, started, counts_on, step, moved}
-use Rattle.c_grammar.proofs.Complete.{accepted, followed-none}
+use Rattle.c_grammar.proofs.Complete.{accepted}
 
 -- ---- declarations
 
@@ -281,26 +280,17 @@ passes (empty_elif p n {us} {vs} a b) = λ f k parts w.
     ∙ passes a f (Another (suc k) ∷ parts) (vs ++ w)
     ∙ passes b f (suc k) parts w
 
-pub return_no_else : {vs : List Item} {d : Code} (p : Place) (w : List Item) → Returns vs d → NoElse (vs ++ at p signs.RightBrace ∷ w)
-return_no_else p w no_return = tt
-return_no_else p w (return q r s n) = tt
-
-ends_main : {vs : List Item} {d : Code} (p : Place) (ds : List Declared) (c : Code) (w : List Item) → Returns vs d → run (Ready (Top ds c)) (vs ++ at p signs.RightBrace ∷ w) ≡ run (Over (file_of ds (followed c d) p) []) w
-unfolding run
-ends_main p ds c w no_return = ap (λ (y : Code). run (Over (file_of ds y p) []) w) (sym (followed-none c))
-ends_main p ds c w (return q r s n) = refl
-
 over_all : (f : File) → run (Over f []) [] ≡ Ok f
 unfolding run
 over_all f = refl
 
+ends_main : (p : Place) (ds : List Declared) (c : Code) (w : List Item) → run (Ready (Top ds c)) (at p signs.RightBrace ∷ w) ≡ run (Over (file_of ds c p) []) w
+unfolding run
+ends_main p ds c w = refl
+
 body_read : {ts : List Item} {c : Code} {p : Place} (ds : List Declared) → Body ts c p → run (Ready (Top ds Done)) ts ≡ Ok (file_of ds c p)
-body_read ds (body p {us} {vs} {ws} {c} {d} s r e) =
-    accepted s (Top ds Done) tt (vs ++ at p signs.RightBrace ∷ ws) (return_no_else p ws r)
-    ∙ ends_main p ds c ws r
-    ∙ ap (run (Over (file_of ds (followed c d) p) [])) (sym (append-nil ws))
-    ∙ passes e (file_of ds (followed c d) p) [] []
-    ∙ over_all (file_of ds (followed c d) p)
+body_read ds (body p {us} {vs} {c} s e) =
+    accepted s (Top ds Done) tt refl (at p signs.RightBrace ∷ vs) tt ∙ ends_main p ds c vs ∙ ap (run (Over (file_of ds c p) [])) (sym (append-nil vs)) ∙ passes e (file_of ds c p) [] [] ∙ over_all (file_of ds c p)
 
 main_read : {ts : List Item} {c : Code} {p : Place} (ds : List Declared) → Main ts c p → run (Outside Outermost ds) ts ≡ Ok (file_of ds c p)
 unfolding run

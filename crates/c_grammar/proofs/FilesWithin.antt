@@ -5,16 +5,15 @@ use Rattle.fam_outer.specs.declared.faults.Place.{Place}
 use Rattle.c_tree.specs.declared.tree.Op.TheVariants.{Sub}
 use Rattle.c_tree.specs.declared.lists.Guard.{Guard}
 use Rattle.c_tree.specs.declared.lists.Declared.{Declared}
-use Rattle.c_tree.specs.Tree.{Code, Done, Skip, followed}
+use Rattle.c_tree.specs.Tree.{Code, Done}
 use Rattle.c_grammar.specs.declared.items.Sign.{Sign}
 use Rattle.c_grammar.specs.declared.items.Sign.TheVariants as signs
 use Rattle.c_grammar.specs.declared.items.Item.{Item}
-use Rattle.c_grammar.specs.Grammar.{at, Optional, absent, present, Typed, int, int32, signed, signed_int, int_signed, Qualifier, Unqualified, Constant, Counted, uncounted, behind, unqualified, const_before, const_behind, Begins, only_type, then_type, enumeration, Declarator, bare, positive, negative, counted, Ending, variables_end, constants_end, enumeration_end, comma_end, Defines, defined, negative_defined, enclosed, negative_enclosed, Callable, of_input, of_function, with_true, with_false, declared, Part, Outer, Vars, Later, Returns, no_return, return, Gap, Gaps, GapRest, File, file_of}
-use Rattle.c_grammar.specs.Machine.{Tailing, Another, Final, Top, Sections, Outermost, InPart, InLast, guards_of, Aim, ToPrototype, ToMain, ReadingState, Outside, AfterStatic, AfterExtern, AfterConst, AfterEnum, AfterVoidType, AfterType, Leading, NoWord, StaticWord, ExternWord, ConstWord, TypeWords, OneInt, OneSigned, WholeType, first_word, Declaring, Bare, Starting, Negating, Started, Listing, Enumerated, listed, AfterDefine, Defining, NegativeDefining, Enclosing, NegativeEnclosing, Enclosed, Parameters, InParameters, AfterVoid, AfterParameters, Ready, Returning, Returned, Closing, Over, with_declared, step, start}
+use Rattle.c_grammar.specs.Grammar.{at, Optional, absent, present, Typed, int, int32, signed, signed_int, int_signed, Qualifier, Unqualified, Constant, Counted, uncounted, behind, unqualified, const_before, const_behind, Begins, only_type, then_type, enumeration, Declarator, bare, positive, negative, counted, Ending, variables_end, constants_end, enumeration_end, comma_end, Defines, defined, negative_defined, enclosed, negative_enclosed, Callable, of_input, of_function, with_true, with_false, declared, Part, Outer, Vars, Later, Gap, Gaps, GapRest, File, file_of}
+use Rattle.c_grammar.specs.Machine.{Tailing, Another, Final, Top, Sections, Outermost, InPart, InLast, guards_of, Aim, ToPrototype, ToMain, ReadingState, Outside, AfterStatic, AfterExtern, AfterConst, AfterEnum, AfterVoidType, AfterType, Leading, NoWord, StaticWord, ExternWord, ConstWord, TypeWords, OneInt, OneSigned, WholeType, first_word, Declaring, Bare, Starting, Negating, Started, Listing, Enumerated, listed, AfterDefine, Defining, NegativeDefining, Enclosing, NegativeEnclosing, Enclosed, Parameters, InParameters, AfterVoid, AfterParameters, Ready, Over, with_declared, step, start}
 use Rattle.c_grammar.specs.Deep.{opens_more, tail_depth, guarded}
 use Rattle.c_grammar.specs.Within.{DeclaresIn, nothing, variables, prototype, void_prototype, definition, section, last_var, next_var, end_part, else_part, elif_part, EmptyIn, no_more, empty_section, empty_end, empty_else, empty_elif, BodyWithin, body, MainWithin, main, FormsWithin, file}
-use Rattle.c_grammar.proofs.Complete.{followed-none}
-use Rattle.c_grammar.proofs.Files.{NameFirst, IsName, before_type, words_of, vars_first, IsStop, bare_step, counted_step, listed_name, return_no_else}
+use Rattle.c_grammar.proofs.Files.{NameFirst, IsName, before_type, words_of, vars_first, IsStop, bare_step, counted_step, listed_name}
 use Rattle.c_grammar.proofs.Within.{declares_plain}
 use Rattle.c_grammar.proofs.CompleteWithin.{same_within}
 use Rattle.c_grammar.proofs.StatesWithin.{token, opens_in, accepted_in}
@@ -309,16 +308,8 @@ passes_in (empty_elif p n {us} {vs} {k = j} a b) = λ f i parts h w.
     ∙ passes_in a f (Another (suc i) ∷ parts) one (vs ++ w)
     ∙ passes_in b f (suc i) parts one w
 
-pub ends_main : {vs : List Item} {d : Code} (p : Place) (ds : List Declared) (c : Code) (w : List Item) → Returns vs d → guarded (Ready (Top ds c)) 0 (vs ++ at p signs.RightBrace ∷ w) ≡ guarded (Over (file_of ds (followed c d) p) []) 0 w
-ends_main p ds c w no_return =
-    token (Ready (Top ds c)) (Over (file_of ds c p) []) p signs.RightBrace 0 w refl refl refl
-    ∙ ap (λ (y : Code). guarded (Over (file_of ds y p) []) 0 w) (sym (followed-none c))
-ends_main p ds c w (return q r s n) =
-    let made : Code = followed c (Skip q Done) in
-    token (Ready (Top ds c)) (Returning q ds c) q signs.Return 0 (at r (signs.Number n) ∷ at s signs.Semicolon ∷ at p signs.RightBrace ∷ w) refl refl refl
-    ∙ token (Returning q ds c) (Returned ds made) r (signs.Number n) 0 (at s signs.Semicolon ∷ at p signs.RightBrace ∷ w) refl refl refl
-    ∙ token (Returned ds made) (Closing ds made) s signs.Semicolon 0 (at p signs.RightBrace ∷ w) refl refl refl
-    ∙ token (Closing ds made) (Over (file_of ds made p) []) p signs.RightBrace 0 w refl refl refl
+pub ends_main : (p : Place) (ds : List Declared) (c : Code) (w : List Item) → guarded (Ready (Top ds c)) 0 (at p signs.RightBrace ∷ w) ≡ guarded (Over (file_of ds c p) []) 0 w
+ends_main p ds c w = token (Ready (Top ds c)) (Over (file_of ds c p) []) p signs.RightBrace 0 w refl refl refl
 
 pub over_all : (f : File) → guarded (Over f []) 0 [] ≡ Ok f
 unfolding guarded
@@ -334,12 +325,12 @@ enters_main {ts} {us} q r s t ds w y o =
     ∙ opens_in (AfterParameters (ToMain ds)) (Ready (Top ds Done)) t signs.LeftBrace 0 w refl refl (omega arith)
 
 body_in : {ts : List Item} {c : Code} {p : Place} (ds : List Declared) → BodyWithin ts c p → guarded (Ready (Top ds Done)) 0 ts ≡ Ok (file_of ds c p)
-body_in ds (body p {us} {vs} {ws} {c} {d} s r e) =
-    accepted_in s (Top ds Done) tt (omega arith) 0 (vs ++ at p signs.RightBrace ∷ ws) (return_no_else p ws r)
-    ∙ ends_main p ds c ws r
-    ∙ ap (guarded (Over (file_of ds (followed c d) p) []) 0) (sym (append-nil ws))
-    ∙ passes_in e (file_of ds (followed c d) p) [] (omega arith) []
-    ∙ over_all (file_of ds (followed c d) p)
+body_in ds (body p {us} {vs} {c} s e) =
+    accepted_in s (Top ds Done) tt refl (omega arith) 0 (at p signs.RightBrace ∷ vs) tt
+    ∙ ends_main p ds c vs
+    ∙ ap (guarded (Over (file_of ds c p) []) 0) (sym (append-nil vs))
+    ∙ passes_in e (file_of ds c p) [] (omega arith) []
+    ∙ over_all (file_of ds c p)
 
 main_in : {ts : List Item} {c : Code} {p : Place} (ds : List Declared) → MainWithin ts c p → guarded (Outside Outermost ds) 0 ts ≡ Ok (file_of ds c p)
 main_in ds (main q r s t u {ts} {us} {vs} {c} y o b) = enters_main q r s t ds vs y o ∙ body_in ds b

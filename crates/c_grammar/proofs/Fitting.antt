@@ -6,9 +6,9 @@ use Rattle.std.proofs.lemmas.Int.{ints}
 use Rattle.fam_outer.specs.declared.faults.Place.{Place}
 use Rattle.c_tree.specs.declared.lists.Guard.{Guard}
 use Rattle.c_tree.specs.declared.lists.Declared.{Declared}
-use Rattle.c_tree.specs.Tree.{Term, Code, Done, Assign, Input, Assert, If, While, Block, Skip, Cond, followed}
+use Rattle.c_tree.specs.Tree.{Term, Code, Done, Assign, Input, Assert, If, While, Do, Leave, Block, Skip, Cond, followed}
 use Rattle.c_tree.specs.Value.{least, IsInt}
-use Rattle.c_tree.specs.Fit.{IsTermOf, IsCodeOf, IsPlain}
+use Rattle.c_tree.specs.Fit.{IsTermOf, IsStep, IsCodeOf, IsPlain}
 use Rattle.c_tree.specs.Project.{projected_start}
 use Rattle.c_tree.specs.Whole.{IsDeclaredOf}
 use Rattle.c_grammar.specs.Statics.{statics_by}
@@ -16,7 +16,7 @@ use Rattle.c_grammar.proofs.HeldStatics.{zero_is_int, statics_fit}
 use Rattle.c_grammar.specs.declared.items.Item.{Item}
 use Rattle.c_grammar.specs.declared.items.Sign.{Sign}
 use Rattle.c_grammar.specs.declared.items.Sign.TheVariants as signs
-use Rattle.c_grammar.specs.Grammar.{at, Prefix, Positive, Negative, Inverse, applied, Expresses, number, name, group, prefix, loose, binary, Changes, assignment, input_taken, compound_assignment, count_behind, count_before, Clause, no_clause, clause, Tests, no_test, test, LocalDeclarator, uninitialised, initialised, from_call, Shape, Writes, none, more, choice, local, static_local, last_local, next_local, ends, otherwise, elif, change, call, void_call, assert, skip, block, while, for, if_then, if_else, Qualifier, Unqualified, Constant, Counted, behind, unqualified, const_before, const_behind, Begins, only_type, then_type, enumeration, Declarator, bare, positive, negative, counted, Defines, defined, negative_defined, enclosed, negative_enclosed, declared, Part, Outer, Vars, Later, Declares, nothing, variables, prototype, void_prototype, definition, section, last_var, next_var, end_part, else_part, elif_part, Returns, no_return, return, Body, body, Main, main, File, Forms, file, has_groups, zeros, held_of}
+use Rattle.c_grammar.specs.Grammar.{at, Prefix, Positive, Negative, Inverse, applied, Expresses, number, name, group, prefix, loose, binary, Changes, assignment, input_taken, compound_assignment, count_behind, count_before, Clause, no_clause, clause, Tests, no_test, test, LocalDeclarator, uninitialised, initialised, from_call, Shape, Writes, none, more, choice, local, static_local, last_local, next_local, ends, otherwise, elif, change, call, void_call, assert, skip, block, while, for, if_then, if_else, do_while, break, continue, return, Qualifier, Unqualified, Constant, Counted, behind, unqualified, const_before, const_behind, Begins, only_type, then_type, enumeration, Declarator, bare, positive, negative, counted, Defines, defined, negative_defined, enclosed, negative_enclosed, declared, Part, Outer, Vars, Later, Declares, nothing, variables, prototype, void_prototype, definition, section, last_var, next_var, end_part, else_part, elif_part, Body, body, Main, main, File, Forms, file, has_groups, zeros, held_of}
 use Rattle.c_grammar.specs.Facts.{AreFit, WellFormed, PlainWithoutGroups}
 use Rattle.c_tree.proofs.Starts.{length-start, ints-start}
 use Rattle.c_grammar.proofs.Keeping.{no_groups}
@@ -50,7 +50,9 @@ followed_fits n (Assign p x e rest) d h i = (h.0, h.1, followed_fits n rest d h.
 followed_fits n (Input p x rest) d h i = (h.0, followed_fits n rest d h.1 i)
 followed_fits n (Assert p e rest) d h i = (h.0, followed_fits n rest d h.1 i)
 followed_fits n (If p e a b rest) d h i = (h.0, h.1, h.2, followed_fits n rest d h.3 i)
-followed_fits n (While p e a b rest) d h i = (h.0, h.1, h.2, followed_fits n rest d h.3 i)
+followed_fits n (While p e a b rest) d h i = (h.0, h.1, h.2, followed_fits n rest d h.3 i, h.4)
+followed_fits n (Do p a q e rest) d h i = (h.0, h.1, followed_fits n rest d h.2 i)
+followed_fits n (Leave p j rest) d h i = (h.0, followed_fits n rest d h.1 i)
 followed_fits n (Block p a rest) d h i = (h.0, followed_fits n rest d h.1 i)
 followed_fits n (Skip p rest) d h i = followed_fits n rest d h i
 followed_fits n (Cond m a b rest) d h i = (h.0, h.1, followed_fits n rest d h.2 i)
@@ -70,6 +72,18 @@ change_fits n (count_before p q x u) h = (h.1.0, (h.1.0, (omega (arith, ints), o
 clause_fits : {ts : List Item} {c : Code} (n : ℕ) → Clause ts c → AreFit n ts → IsCodeOf n c
 clause_fits n no_clause h = tt
 clause_fits n (clause s) h = change_fits n s h
+
+change_step : {ts : List Item} {c : Code} → Changes ts c → IsStep c
+change_step (assignment p q x e) = tt
+change_step (input_taken p q r s t x g) = tt
+change_step (compound_assignment p q x u e) = tt
+change_step (count_behind p q x u) = tt
+change_step (count_before p q x u) = tt
+
+-- what a `for` does behind its body is a step
+clause_step : {ts : List Item} {c : Code} → Clause ts c → IsStep c
+clause_step no_clause = tt
+clause_step (clause s) = change_step s
 
 test_fits : {ts : List Item} {p : Place} {e : Term} (n : ℕ) → Tests ts p e → AreFit n ts → IsTermOf n e
 test_fits n (no_test z) h = (omega (arith, ints), omega (arith, ints))
@@ -92,17 +106,23 @@ code_fits n (void_call p q r s t u v g) h = tt
 code_fits n (assert p q r s {ts} e) h = (term_fits n e (fit_split n ts (at r signs.Close ∷ at s signs.Semicolon ∷ []) h.1.1).0, tt)
 code_fits n (skip p) h = tt
 code_fits n (block p q {ts} s) h = (code_fits n s (fit_split n ts (at q signs.RightBrace ∷ []) h.1).0, tt)
-code_fits n (while p q r {b} {ts} {us} e s) h = let k = fit_split n ts (at r signs.Close ∷ us) h.1.1 in (term_fits n e k.0, tt, code_fits n s k.1.1, tt)
+code_fits n (while p q r {b} {ts} {us} e s) h = let k = fit_split n ts (at r signs.Close ∷ us) h.1.1 in (term_fits n e k.0, tt, code_fits n s k.1.1, tt, tt)
 code_fits n (for p q r z {b} {ts} {us} {vs} {ws} {start} {step = advance} {c} {t} {e} first middle last s) h =
     let k = fit_split n ts (at r signs.Semicolon ∷ (us ++ (vs ++ at z signs.Close ∷ ws))) h.1.1 in
     let l = fit_split n us (vs ++ at z signs.Close ∷ ws) k.1.1 in
     let m = fit_split n vs (at z signs.Close ∷ ws) l.1 in
-    followed_fits n start (While t e advance c Done) (clause_fits n first k.0) (test_fits n middle l.0, clause_fits n last m.0, code_fits n s m.1.1, tt)
+    followed_fits n start (While t e advance c Done) (clause_fits n first k.0) (test_fits n middle l.0, clause_fits n last m.0, code_fits n s m.1.1, tt, clause_step last)
 code_fits n (if_then p q r {b} {ts} {us} e s) h = let k = fit_split n ts (at r signs.Close ∷ us) h.1.1 in (term_fits n e k.0, code_fits n s k.1.1, tt, tt)
 code_fits n (if_else p q r z {b} {ts} {us} {vs} e s t) h =
     let k = fit_split n ts (at r signs.Close ∷ (us ++ at z signs.Else ∷ vs)) h.1.1 in
     let l = fit_split n us (at z signs.Else ∷ vs) k.1.1 in
     (term_fits n e k.0, code_fits n s l.0, code_fits n t l.1.1, tt)
+code_fits n (do_while p q r s t {b} {ts} {us} {x} l e) h =
+    let k = fit_split n ts (at q signs.While ∷ at r signs.Open ∷ x ∷ (us ++ at s signs.Close ∷ at t signs.Semicolon ∷ [])) h.1 in
+    (term_fits n e (fit_split n (x ∷ us) (at s signs.Close ∷ at t signs.Semicolon ∷ []) k.1.1.1).0, code_fits n l k.0, tt)
+code_fits n (break p q) h = (tt, tt)
+code_fits n (continue p q) h = (tt, tt)
+code_fits n (return p q {ts} e) h = (term_fits n e (fit_split n ts (at q signs.Semicolon ∷ []) h.1).0, tt)
 
 -- a constant that is counted begins from an `int`
 abbrev QualifierFits : Qualifier → Type 0
@@ -183,6 +203,8 @@ followed_plain (Input p x rest) d h i = followed_plain rest d h i
 followed_plain (Assert p e rest) d h i = followed_plain rest d h i
 followed_plain (If p e a b rest) d h i = (h.0, h.1, followed_plain rest d h.2 i)
 followed_plain (While p e a b rest) d h i = (h.0, h.1, followed_plain rest d h.2 i)
+followed_plain (Do p a q e rest) d h i = (h.0, followed_plain rest d h.1 i)
+followed_plain (Leave p j rest) d h i = followed_plain rest d h i
 followed_plain (Block p a rest) d h i = (h.0, followed_plain rest d h.1 i)
 followed_plain (Skip p rest) d h i = followed_plain rest d h i
 followed_plain (Cond m a b rest) d h i = absurd h
@@ -228,13 +250,13 @@ code_plain (if_then p q r {b} {ts} {us} e s) h = (code_plain s (no_groups ts (at
 code_plain (if_else p q r z {b} {ts} {us} {vs} e s t) h =
     let k = no_groups us (at z signs.Else ∷ vs) (no_groups ts (at r signs.Close ∷ (us ++ at z signs.Else ∷ vs)) h).1 in
     (code_plain s k.0, code_plain t k.1, tt)
-
-return_plain : {ts : List Item} {c : Code} → Returns ts c → IsPlain c
-return_plain no_return = tt
-return_plain (return p q r v) = tt
+code_plain (do_while p q r s t {b} {ts} {us} {x} l e) h = (code_plain l (no_groups ts (at q signs.While ∷ at r signs.Open ∷ x ∷ (us ++ at s signs.Close ∷ at t signs.Semicolon ∷ [])) h).0, tt)
+code_plain (break p q) h = tt
+code_plain (continue p q) h = tt
+code_plain (return p q e) h = tt
 
 body_plain : {ts : List Item} {c : Code} {p : Place} → Body ts c p → has_groups ts ≡ false → IsPlain c
-body_plain (body p {us} {vs} {ws} {c} {d} s r e) h = followed_plain c d (code_plain s (no_groups us (vs ++ at p signs.RightBrace ∷ ws) h).0) (return_plain r)
+body_plain (body p {us} {vs} s e) h = code_plain s (no_groups us (at p signs.RightBrace ∷ vs) h).0
 
 main_plain : {ts : List Item} {c : Code} {p : Place} → Main ts c p → has_groups ts ≡ false → IsPlain c
 main_plain (main q r s t u {ts} {us} {vs} y o b) h =
@@ -248,12 +270,8 @@ plain_law names items f h s = record { body = file_plain items f s h; declared =
 
 -- ---- programs
 
-return_fits : {ts : List Item} {c : Code} (n : ℕ) → Returns ts c → IsCodeOf n c
-return_fits n no_return = tt
-return_fits n (return p q r v) = tt
-
 body_fits : {ts : List Item} {c : Code} {p : Place} (n : ℕ) → Body ts c p → AreFit n ts → IsCodeOf n c
-body_fits n (body p {us} {vs} {ws} {c} {d} s r e) h = followed_fits n c d (code_fits n s (fit_split n us (vs ++ at p signs.RightBrace ∷ ws) h).0) (return_fits n r)
+body_fits n (body p {us} {vs} s e) h = code_fits n s (fit_split n us (at p signs.RightBrace ∷ vs) h).0
 
 main_fits : {ts : List Item} {c : Code} {p : Place} (n : ℕ) → Main ts c p → AreFit n ts → IsCodeOf n c
 main_fits n (main q r s t u {ts} {us} {vs} y o b) h =

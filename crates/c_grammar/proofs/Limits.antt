@@ -8,14 +8,14 @@ use Rattle.c_tree.specs.declared.tree.Op.{Op}
 use Rattle.c_tree.specs.declared.tree.Op.TheVariants.{Add, Sub}
 use Rattle.c_tree.specs.declared.lists.Declared.{Declared}
 use Rattle.c_tree.specs.Value.{greatest}
-use Rattle.c_tree.specs.Tree.{Term, Neg, Not, Binary, Code, Done, Assign, Input, Assert, If, While, Block, Skip, Cond, followed}
+use Rattle.c_tree.specs.Tree.{Term, Neg, Not, Binary, Break, Continue, Code, Done, Assign, Input, Assert, If, While, Do, Leave, Block, Skip, Cond, followed}
 use Rattle.c_tree.specs.Whole.{operators, nesting, IsSmall}
 use Rattle.c_grammar.specs.declared.items.Sign.{Sign}
 use Rattle.c_grammar.specs.declared.items.Sign.TheVariants as signs
 use Rattle.c_grammar.specs.declared.items.Item.{Item}
-use Rattle.c_grammar.specs.Grammar.{Count, tighter, updated, Positive, Negative, Inverse, Qualifier, Unqualified, Constant, Counted, File}
-use Rattle.c_grammar.specs.Machine.{Frame, Paren, Pre, Left, Stack, Top, Braces, Yes, No, ThenOf, ElseOf, LoopOf, Site, AsStatement, AsStart, AsStep, Use, ToAssign, ToInitialise, ToUpdate, ToAssert, ToChoose, ToLoop, ToRepeat, Pending, OfStatement, OfLocal, Sections, Outermost, InPart, InLast, Aim, ToPrototype, ToMain, Tailing, Another, ReadingState, Outside, AfterStatic, AfterExtern, AfterConst, AfterEnum, AfterVoidType, AfterType, Leading, NoWord, StaticWord, ExternWord, ConstWord, TypeWords, OneInt, OneSigned, WholeType, Declaring, Bare, Starting, Negating, Started, Listing, Enumerated, AfterDefine, Defining, NegativeDefining, Enclosing, NegativeEnclosing, Enclosed, Parameters, InParameters, AfterVoid, AfterParameters, Ready, LocalConst, LocalType, NextLocal, LocalNamed, Ended, Wants, Has, Counting, Named, Opens, ForOpens, StartComes, TestComes, StepComes, VoidComes, VoidCloses, CallComes, CallOpens, CallCloses, Finishing, Returning, Returned, Closing, Over, settle, ended_change, closed_change, input_of, want, tested, closed_by, assigned, ended_by, initialised, followed_by, have, folded, else_of, linked, opened, braced, returned, next_part, last_part, group_end, in_list, begin, on, named, counting, changing, start_comes, test_comes, step_comes, local_end, const_word, next_local, behind_local_type, local_type, without_initialiser, local_named, finishing, at_open, at_close, at_semicolon, at_void, at_function, at_void_function, next_condition, last_section, section_end, outside, behind_extern, behind_static, declaring, qualifying, main_of, first_word, naming, behind_type, after_type, after_enum, listed, declaration_end, enumeration_end, started, listing, counts_on, without_value, is_bare, starting, negating, after_define, defined_as, defining, negative_defining, enclosing, negative_enclosing, in_parameters, after_parameters, returning, closing, over, with_declared, step, finish, start, InStatic, BehindStatic, StaticPart, BehindStaticConst, BehindStaticType, BeforeStaticName, BehindStaticName, BehindStaticEquals, BehindStaticMinus, BehindStaticNumber, static_word, behind_static_word, static_name, behind_static_type, static_type, static_end, static_bare, static_named, static_value, static_negative, static_step}
-use Rattle.c_grammar.specs.Deep.{depth, opens_more, is_nested, counted, is_long, is_deep, Fault, ended, went, guarded}
+use Rattle.c_grammar.specs.Grammar.{Count, Raise, Lower, tighter, updated, changed_by_one, Positive, Negative, Inverse, Qualifier, Unqualified, Constant, Counted, File}
+use Rattle.c_grammar.specs.Machine.{Frame, Paren, Pre, Left, Stack, Top, Braces, Yes, No, ThenOf, ElseOf, LoopOf, DoOf, Onward, InList, AtTest, Site, AsStatement, AsStart, AsStep, Use, ToAssign, ToInitialise, ToUpdate, ToAssert, ToChoose, ToLoop, ToRepeat, ToRedo, ToReturn, Pending, OfStatement, OfLocal, Sections, Outermost, InPart, InLast, Aim, ToPrototype, ToMain, Tailing, Another, ReadingState, Outside, AfterStatic, AfterExtern, AfterConst, AfterEnum, AfterVoidType, AfterType, Leading, NoWord, StaticWord, ExternWord, ConstWord, TypeWords, OneInt, OneSigned, WholeType, Declaring, Bare, Starting, Negating, Started, Listing, Enumerated, AfterDefine, Defining, NegativeDefining, Enclosing, NegativeEnclosing, Enclosed, Parameters, InParameters, AfterVoid, AfterParameters, Ready, LocalConst, LocalType, NextLocal, LocalNamed, Ended, Wants, Has, Counting, Named, Opens, ForOpens, StartComes, TestComes, StepComes, RedoOpens, RedoComes, VoidComes, VoidCloses, CallComes, CallOpens, CallCloses, Finishing, Over, settle, ended_change, closed_change, input_of, want, tested, closed_by, assigned, ended_by, initialised, followed_by, have, folded, is_in_loop, placed, else_of, linked, opened, leaving, braced, next_part, last_part, group_end, in_list, begin, proceed, on, named, counting, changing, start_comes, test_comes, step_comes, local_end, const_word, next_local, behind_local_type, local_type, without_initialiser, local_named, finishing, at_open, at_close, at_semicolon, at_void, at_while, at_function, at_void_function, next_condition, last_section, section_end, outside, behind_extern, behind_static, declaring, qualifying, main_of, first_word, naming, behind_type, after_type, after_enum, listed, declaration_end, enumeration_end, started, listing, counts_on, without_value, is_bare, starting, negating, after_define, defined_as, defining, negative_defining, enclosing, negative_enclosing, in_parameters, after_parameters, over, with_declared, step, finish, start, InStatic, BehindStatic, StaticPart, BehindStaticConst, BehindStaticType, BeforeStaticName, BehindStaticName, BehindStaticEquals, BehindStaticMinus, BehindStaticNumber, static_word, behind_static_word, static_name, behind_static_type, static_type, static_end, static_bare, static_named, static_value, static_negative, static_step}
+use Rattle.c_grammar.specs.Deep.{depth, onward_depth, opens_more, is_nested, counted, is_long, is_deep, Fault, ended, went, guarded}
 
 max_parts : (a b k m : ℕ) → max a b + k ≤ m → (a + k ≤ m) × (b + k ≤ m)
 max_parts a b k m h = (omega (arith, le-max_left a b), omega (arith, le-max_right a b))
@@ -49,6 +49,11 @@ fine_followed k (While p e a b rest) d h i =
     let m = max_parts (max (nesting a) (nesting b) + 1) (nesting rest) k 64 h.0 in
     let r = fine_followed k rest d (m.1, h.1.3) i in
     (max_both (max (nesting a) (nesting b) + 1) (nesting (followed rest d)) k 64 m.0 r.0, (h.1.0, h.1.1, h.1.2, r.1))
+fine_followed k (Do p a q e rest) d h i =
+    let m = max_parts (nesting a + 1) (nesting rest) k 64 h.0 in
+    let r = fine_followed k rest d (m.1, h.1.2) i in
+    (max_both (nesting a + 1) (nesting (followed rest d)) k 64 m.0 r.0, (h.1.0, h.1.1, r.1))
+fine_followed k (Leave p j rest) d h i = let r = fine_followed k rest d (h.0, h.1.1) i in (r.0, (h.1.0, r.1))
 fine_followed k (Block p a rest) d h i =
     let m = max_parts (nesting a + 1) (nesting rest) k 64 h.0 in
     let r = fine_followed k rest d (m.1, h.1.1) i in
@@ -73,6 +78,12 @@ Fits (No links n first made outer) = Fine (suc (length links) + depth outer) mad
 Fits (ThenOf p e outer) = (suc (depth outer) ≤ 64) × (operators e ≤ 64) × Fits outer
 Fits (ElseOf p e first outer) = Fine (suc (depth outer)) first × (operators e ≤ 64) × Fits outer
 Fits (LoopOf start p e advance outer) = (suc (depth outer) ≤ 64) × (operators e ≤ 64) × Fine (depth outer) start × Fine (suc (depth outer)) advance × Fits outer
+Fits (DoOf p outer) = (suc (depth outer) ≤ 64) × Fits outer
+
+-- behind a statement, where no `else` comes
+OnwardFits : Onward → Type 0
+OnwardFits (InList outer) = Fits outer
+OnwardFits (AtTest p c outer) = Fine (suc (depth outer)) c × Fits outer
 
 depth_fits : (outer : Stack) → Fits outer → 0 + depth outer ≤ 64
 depth_fits (Top ds made) h = omega arith
@@ -82,6 +93,7 @@ depth_fits (No links n first made outer) h = omega (arith, h.0.0)
 depth_fits (ThenOf p e outer) h = omega (arith, h.0)
 depth_fits (ElseOf p e first outer) h = omega (arith, h.0.0)
 depth_fits (LoopOf start p e advance outer) h = omega (arith, h.0)
+depth_fits (DoOf p outer) h = omega (arith, h.0)
 
 linked_fits : (links : List (ℕ × Code)) (d : ℕ) (c : Code) → LinksFit links d → Fine (length links + d) c → Fine d (linked links c)
 linked_fits [] d c h i = (omega (arith, i.0), i.1)
@@ -101,9 +113,21 @@ folded_fits (Top ds made) c h i = fine_followed 0 made c h i
 folded_fits (Braces p made outer) c h i = (fine_followed (suc (depth outer)) made c h.0 i, h.1)
 folded_fits (Yes links n made outer) c h i = (fine_followed (suc (length links) + depth outer) made c h.0 i, h.1, h.2)
 folded_fits (No links n first made outer) c h i = (fine_followed (suc (length links) + depth outer) made c h.0 i, h.1, h.2, h.3)
-folded_fits (ThenOf p e outer) c h i = folded_fits outer (If p e c Done Done) h.2 (then_fine p e (depth outer) c h.1 i)
-folded_fits (ElseOf p e first outer) c h i = folded_fits outer (If p e first c Done) h.2 (else_fine p e (depth outer) first c h.1 h.0 i)
-folded_fits (LoopOf start p e advance outer) c h i = folded_fits outer (followed start (While p e advance c Done)) h.4 (loop_fine start p e advance (depth outer) c h.2 h.1 h.3 i)
+folded_fits (ThenOf p e outer) c h i = h
+folded_fits (ElseOf p e first outer) c h i = h
+folded_fits (LoopOf _ p e advance outer) c h i = h
+folded_fits (DoOf p outer) c h i = h
+
+placed_fits : (outer : Stack) (c : Code) → Fits outer → Fine (depth outer) c → OnwardFits (placed outer c)
+unfolding OnwardFits
+placed_fits (Top ds made) c h i = folded_fits (Top ds made) c h i
+placed_fits (Braces p made outer) c h i = folded_fits (Braces p made outer) c h i
+placed_fits (Yes links n made outer) c h i = folded_fits (Yes links n made outer) c h i
+placed_fits (No links n first made outer) c h i = folded_fits (No links n first made outer) c h i
+placed_fits (ThenOf p e outer) c h i = placed_fits outer (If p e c Done Done) h.2 (then_fine p e (depth outer) c h.1 i)
+placed_fits (ElseOf p e first outer) c h i = placed_fits outer (If p e first c Done) h.2 (else_fine p e (depth outer) first c h.1 h.0 i)
+placed_fits (LoopOf start p e advance outer) c h i = placed_fits outer (followed start (While p e advance c Done)) h.4 (loop_fine start p e advance (depth outer) c h.2 h.1 h.3 i)
+placed_fits (DoOf p outer) c h i = (i, h.1)
 
 weight : List Frame → ℕ
 weight [] = 0
@@ -121,6 +145,18 @@ SiteFits (AsStep start p e outer) = (suc (depth outer) ≤ 64) × (operators e �
 IsFlat : Code → Type 0
 IsFlat c = (nesting c ≡ 0) × IsSmall c
 
+-- what is read but for its end: a statement, or a change in the parentheses of a `for`
+PieceFits : Site → Code → Type 0
+PieceFits (AsStatement outer) c = Fine (depth outer) c
+PieceFits (AsStart outer) c = IsFlat c
+PieceFits (AsStep _ p e outer) c = IsFlat c
+
+flat_piece : (site : Site) (c : Code) → SiteFits site → IsFlat c → PieceFits site c
+unfolding SiteFits IsFlat PieceFits
+flat_piece (AsStatement outer) c h i = (omega (arith, i.0, depth_fits outer h), i.1)
+flat_piece (AsStart outer) c h i = i
+flat_piece (AsStep _ p e outer) c h i = i
+
 UseFits : Use → Type 0
 UseFits (ToAssign p x site) = SiteFits site
 UseFits (ToInitialise kind p x outer) = Fits outer
@@ -129,9 +165,11 @@ UseFits (ToAssert p outer) = Fits outer
 UseFits (ToChoose p outer) = (suc (depth outer) ≤ 64) × Fits outer
 UseFits (ToLoop p outer) = (suc (depth outer) ≤ 64) × Fits outer
 UseFits (ToRepeat start p outer) = (suc (depth outer) ≤ 64) × Fine (depth outer) start × Fits outer
+UseFits (ToRedo p c q outer) = Fine (suc (depth outer)) c × Fits outer
+UseFits (ToReturn p outer) = Fits outer
 
 PendingFits : Pending → Type 0
-PendingFits (OfStatement site c) = SiteFits site × IsFlat c
+PendingFits (OfStatement site c) = SiteFits site × PieceFits site c
 PendingFits (OfLocal kind outer c) = Fits outer × Fine (depth outer) c
 
 StateFits : ReadingState → ℕ → Type 0
@@ -151,15 +189,14 @@ StateFits (ForOpens outer) k = (suc (depth outer) ≤ 64) × Fits outer
 StateFits (StartComes outer) k = (suc (depth outer) ≤ 64) × Fits outer
 StateFits (TestComes start outer) k = (suc (depth outer) ≤ 64) × Fine (depth outer) start × Fits outer
 StateFits (StepComes start p e outer) k = (suc (depth outer) ≤ 64) × (operators e ≤ 64) × Fine (depth outer) start × Fits outer
+StateFits (RedoOpens p c outer) k = Fine (suc (depth outer)) c × Fits outer
+StateFits (RedoComes p c outer) k = Fine (suc (depth outer)) c × Fits outer
 StateFits (VoidComes p outer) k = Fits outer
 StateFits (VoidCloses p outer) k = Fits outer
 StateFits (CallComes p outer) k = Fits outer
 StateFits (CallOpens made) k = PendingFits made
 StateFits (CallCloses made) k = PendingFits made
 StateFits (Finishing made) k = PendingFits made
-StateFits (Returning p ds made) k = Fine 0 made
-StateFits (Returned ds made) k = Fine 0 made
-StateFits (Closing ds made) k = Fine 0 made
 StateFits (Over f parts) k = Fine 0 f.body
 StateFits _ k = Unit {0}
 
@@ -174,6 +211,7 @@ opened_fits n k (No links m first made outer) lt h = ((omega arith, tt), tt, h)
 opened_fits n k (ThenOf p e outer) lt h = tt
 opened_fits n k (ElseOf p e first outer) lt h = tt
 opened_fits n k (LoopOf _ p e advance outer) lt h = tt
+opened_fits n k (DoOf p outer) lt h = tt
 
 braced_fits : (q : Place) (k : ℕ) (outer : Stack) → Fits outer → IfSome (braced outer q) (λ next. StateFits next k)
 unfolding StateFits
@@ -181,10 +219,11 @@ braced_fits q k (Top ds made) h = h
 braced_fits q k (Braces p made outer) h = (h.1, (around_one (nesting made) (depth outer) h.0.0, (h.0.1, tt)))
 braced_fits q k _ h = tt
 
-returned_fits : (q : Place) (k : ℕ) (outer : Stack) → Fits outer → IfSome (returned outer q) (λ next. StateFits next k)
-unfolding StateFits
-returned_fits q k (Top ds made) h = h
-returned_fits q k _ h = tt
+-- `break` or `continue`
+leaving_fits : (i : Bool) (outer : Stack) (c : Code) → Fits outer → Fine (depth outer) c → IfSome (leaving i outer c) (λ next. StateFits next 0)
+unfolding StateFits SiteFits PieceFits PendingFits
+leaving_fits true outer c h f = (h, f)
+leaving_fits false outer c h f = tt
 
 next_fits : (m k : ℕ) (outer : Stack) → depth outer < 64 → Fits outer → IfSome (next_part m outer) (λ next. StateFits next k)
 unfolding StateFits
@@ -210,33 +249,37 @@ list_fits (No links n first made outer) next k h = h
 list_fits (ThenOf p e outer) next k h = tt
 list_fits (ElseOf p e first outer) next k h = tt
 list_fits (LoopOf _ p e advance outer) next k h = tt
+list_fits (DoOf p outer) next k h = tt
 
-begin_fits : (outer : Stack) (p : Place) (s : Sign) (k : ℕ) → (opens_more s && leb 64 (depth outer)) ≡ false → Fits outer → IfSome (begin outer p s) (λ next. StateFits next k)
-unfolding StateFits SiteFits IsFlat UseFits PendingFits
-begin_fits outer p (signs.Name x) k l h = h
-begin_fits outer p signs.Static k l h = list_fits outer (InStatic BehindStatic outer) k h
-begin_fits outer p signs.Const k l h = list_fits outer (LocalConst outer) k h
-begin_fits outer p signs.Int k l h = list_fits outer (LocalType Unqualified OneInt outer) k h
-begin_fits outer p signs.Int32 k l h = list_fits outer (LocalType Unqualified WholeType outer) k h
-begin_fits outer p signs.Signed k l h = list_fits outer (LocalType Unqualified OneSigned outer) k h
-begin_fits outer p signs.Input k l h = (h, (refl, tt))
-begin_fits outer p (signs.Function n) k l h = (h, (refl, tt))
-begin_fits outer p signs.Open k l h = h
-begin_fits outer p signs.Semicolon k l h = (h, (depth_fits outer h, tt))
-begin_fits outer p signs.PlusPlus k l h = h
-begin_fits outer p signs.MinusMinus k l h = h
-begin_fits outer p signs.LeftBrace k l h = let lt = leb-false 64 (depth outer) l in ((omega (arith, lt), tt), h)
-begin_fits outer p signs.RightBrace k l h = braced_fits p k outer h
-begin_fits outer p signs.Assert k l h = h
-begin_fits outer p signs.If k l h = (leb-false 64 (depth outer) l, h)
-begin_fits outer p signs.While k l h = (leb-false 64 (depth outer) l, h)
-begin_fits outer p signs.For k l h = (leb-false 64 (depth outer) l, h)
-begin_fits outer p signs.Return k l h = returned_fits p k outer h
-begin_fits outer p (signs.GroupIf n) k l h = opened_fits n k outer (leb-false 64 (depth outer) l) h
-begin_fits outer p (signs.GroupElif n) k l h = next_fits n k outer (leb-false 64 (depth outer) l) h
-begin_fits outer p signs.GroupElse k l h = last_fits k outer h
-begin_fits outer p signs.GroupEnd k l h = end_fits k outer h
-begin_fits outer p _ k l h = tt
+begin_fits : (outer : Stack) (p : Place) (s : Sign) → (opens_more s && leb 64 (depth outer)) ≡ false → Fits outer → IfSome (begin outer p s) (λ next. StateFits next 0)
+unfolding StateFits SiteFits IsFlat UseFits PieceFits PendingFits weight
+begin_fits outer p (signs.Name x) l h = h
+begin_fits outer p signs.Static l h = list_fits outer (InStatic BehindStatic outer) 0 h
+begin_fits outer p signs.Const l h = list_fits outer (LocalConst outer) 0 h
+begin_fits outer p signs.Int l h = list_fits outer (LocalType Unqualified OneInt outer) 0 h
+begin_fits outer p signs.Int32 l h = list_fits outer (LocalType Unqualified WholeType outer) 0 h
+begin_fits outer p signs.Signed l h = list_fits outer (LocalType Unqualified OneSigned outer) 0 h
+begin_fits outer p signs.Input l h = (h, (depth_fits outer h, tt))
+begin_fits outer p (signs.Function n) l h = (h, (depth_fits outer h, tt))
+begin_fits outer p signs.Open l h = h
+begin_fits outer p signs.Semicolon l h = (h, (depth_fits outer h, tt))
+begin_fits outer p signs.PlusPlus l h = h
+begin_fits outer p signs.MinusMinus l h = h
+begin_fits outer p signs.LeftBrace l h = let lt = leb-false 64 (depth outer) l in ((omega (arith, lt), tt), h)
+begin_fits outer p signs.RightBrace l h = braced_fits p 0 outer h
+begin_fits outer p signs.Assert l h = h
+begin_fits outer p signs.If l h = (leb-false 64 (depth outer) l, h)
+begin_fits outer p signs.While l h = (leb-false 64 (depth outer) l, h)
+begin_fits outer p signs.For l h = (leb-false 64 (depth outer) l, h)
+begin_fits outer p signs.Do l h = (leb-false 64 (depth outer) l, h)
+begin_fits outer p signs.Break l h = leaving_fits (is_in_loop outer) outer (Leave p Break Done) h (depth_fits outer h, (tt, tt))
+begin_fits outer p signs.Continue l h = leaving_fits (is_in_loop outer) outer (Leave p Continue Done) h (depth_fits outer h, (tt, tt))
+begin_fits outer p signs.Return l h = (h, omega arith, omega arith)
+begin_fits outer p (signs.GroupIf n) l h = opened_fits n 0 outer (leb-false 64 (depth outer) l) h
+begin_fits outer p (signs.GroupElif n) l h = next_fits n 0 outer (leb-false 64 (depth outer) l) h
+begin_fits outer p signs.GroupElse l h = last_fits 0 outer h
+begin_fits outer p signs.GroupEnd l h = end_fits 0 outer h
+begin_fits outer p _ l h = tt
 
 else_fits : (outer : Stack) (c : Code) (k : ℕ) → Fits outer → Fine (depth outer) c → IfSome (else_of outer c) (λ next. StateFits next k)
 unfolding StateFits
@@ -247,10 +290,20 @@ else_fits (No links n first made outer) c k h i = tt
 else_fits (ThenOf p e outer) c k h i = (i, h.1, h.2)
 else_fits (ElseOf p e first outer) c k h i = else_fits outer (If p e first c Done) k h.2 (else_fine p e (depth outer) first c h.1 h.0 i)
 else_fits (LoopOf start p e advance outer) c k h i = else_fits outer (followed start (While p e advance c Done)) k h.4 (loop_fine start p e advance (depth outer) c h.2 h.1 h.3 i)
+else_fits (DoOf p outer) c k h i = tt
 
-on_fits : (outer : Stack) (c : Code) (p : Place) (s : Sign) (k : ℕ) → (opens_more s && leb 64 (depth (folded outer c))) ≡ false → Fits outer → Fine (depth outer) c → IfSome (on outer c p s) (λ next. StateFits next k)
-on_fits outer c p signs.Else k l h i = else_fits outer c k h i
-on_fits outer c p s k l h i = begin_fits (folded outer c) p s k l (folded_fits outer c h i)
+while_fits : (next : ReadingState) (s : Sign) → StateFits next 0 → IfSome (at_while next s) (λ n. StateFits n 0)
+while_fits next signs.While h = h
+while_fits next _ h = tt
+
+proceed_fits : (o : Onward) (p : Place) (s : Sign) → (opens_more s && leb 64 (onward_depth o)) ≡ false → OnwardFits o → IfSome (proceed o p s) (λ next. StateFits next 0)
+unfolding OnwardFits StateFits
+proceed_fits (InList outer) p s l h = begin_fits outer p s l h
+proceed_fits (AtTest q c outer) p s l h = while_fits (RedoOpens q c outer) s h
+
+on_fits : (outer : Stack) (c : Code) (p : Place) (s : Sign) → (opens_more s && leb 64 (onward_depth (placed outer c))) ≡ false → Fits outer → Fine (depth outer) c → IfSome (on outer c p s) (λ next. StateFits next 0)
+on_fits outer c p signs.Else l h i = else_fits outer c 0 h i
+on_fits outer c p s l h i = proceed_fits (placed outer c) p s l (placed_fits outer c h i)
 
 settled : (k : ℕ) (fs : List Frame) (e : Term) (m : ℕ) → weight fs + operators e ≤ m → weight (settle k fs e).0 + operators (settle k fs e).1 ≤ m
 unfolding weight
@@ -272,21 +325,21 @@ prefix_fits fs u Sub k h w l = (h, omega arith, l)
 prefix_fits fs u _ k h w l = tt
 
 -- the end of a change
-ended_change_fits : (site : Site) (c : Code) (k : ℕ) → SiteFits site → IsFlat c → IfSome (ended_change site c) (λ next. StateFits next k)
-unfolding StateFits SiteFits IsFlat
-ended_change_fits (AsStatement outer) c k h i = (h, (omega (arith, i.0, depth_fits outer h), i.1))
+ended_change_fits : (site : Site) (c : Code) (k : ℕ) → SiteFits site → PieceFits site c → IfSome (ended_change site c) (λ next. StateFits next k)
+unfolding StateFits SiteFits IsFlat PieceFits
+ended_change_fits (AsStatement outer) c k h i = (h, i)
 ended_change_fits (AsStart outer) c k h i = (h.0, (omega (arith, i.0, depth_fits outer h.1), i.1), h.1)
 ended_change_fits (AsStep _ p e outer) c k h i = tt
 
-closed_change_fits : (site : Site) (c : Code) (k : ℕ) → SiteFits site → IsFlat c → IfSome (closed_change site c) (λ next. StateFits next k)
-unfolding StateFits SiteFits IsFlat
+closed_change_fits : (site : Site) (c : Code) (k : ℕ) → SiteFits site → PieceFits site c → IfSome (closed_change site c) (λ next. StateFits next k)
+unfolding StateFits SiteFits IsFlat PieceFits
 closed_change_fits (AsStatement outer) c k h i = tt
 closed_change_fits (AsStart outer) c k h i = tt
 closed_change_fits (AsStep start p e outer) c k h i = (h.0, h.1, h.2, (omega (arith, i.0, h.0), i.1), h.3)
 
 input_fits : (fs : List Frame) (u : Use) (k : ℕ) → UseFits u → IfSome (input_of fs u) (λ next. StateFits next k)
 unfolding StateFits IsFlat UseFits PendingFits
-input_fits [] (ToAssign p x site) k h = (h, (refl, tt))
+input_fits [] (ToAssign p x site) k h = (h, flat_piece site (Input p x Done) h (refl, tt))
 input_fits [] (ToInitialise kind p x outer) k h = (h, (depth_fits outer h, tt))
 input_fits _ _ k h = tt
 
@@ -302,14 +355,16 @@ want_fits fs u p (signs.Function n) k l h = input_fits fs u k h.0
 want_fits fs u p _ k l h = tt
 
 tested_fits : (u : Use) (e : Term) (k : ℕ) → UseFits u → operators e ≤ 64 → IfSome (tested u e) (λ next. StateFits next k)
-unfolding StateFits SiteFits IsFlat UseFits PendingFits
-tested_fits (ToAssign p x site) e k h w = closed_change_fits site (Assign p x e Done) k h (refl, (omega arith, tt))
+unfolding StateFits SiteFits IsFlat PieceFits UseFits PendingFits
+tested_fits (ToAssign p x site) e k h w = closed_change_fits site (Assign p x e Done) k h (flat_piece site (Assign p x e Done) h (refl, (omega arith, tt)))
 tested_fits (ToInitialise kind p x outer) e k h w = tt
-tested_fits (ToUpdate p x u site) e k h w = closed_change_fits site (updated p x u e) k h (refl, (omega arith, tt))
-tested_fits (ToAssert p outer) e k h w = (h, (refl, (w, tt)))
+tested_fits (ToUpdate p x u site) e k h w = closed_change_fits site (updated p x u e) k h (flat_piece site (updated p x u e) h (refl, (omega arith, tt)))
+tested_fits (ToAssert p outer) e k h w = (h, (depth_fits outer h, (w, tt)))
 tested_fits (ToChoose p outer) e k h w = (h.0, w, h.1)
 tested_fits (ToLoop p outer) e k h w = (h.0, w, (depth_fits outer h.1, tt), (omega (arith, h.0), tt), h.1)
 tested_fits (ToRepeat _ p outer) e k h w = tt
+tested_fits (ToRedo p c q outer) e k h w = (h.1, (around_one (nesting c) (depth outer) h.0.0, (w, h.0.1, tt)))
+tested_fits (ToReturn p outer) e k h w = tt
 
 closed_fits : (fs : List Frame) (u : Use) (e : Term) (k : ℕ) → UseFits u → weight fs + operators e ≤ k → k ≤ 64 → IfSome (closed_by fs u e) (λ next. StateFits next k)
 unfolding StateFits weight
@@ -320,13 +375,15 @@ closed_fits (Left op a ∷ fs) u e k h w l = tt
 
 assigned_fits : (u : Use) (e : Term) (k : ℕ) → UseFits u → operators e ≤ 64 → IfSome (assigned u e) (λ next. StateFits next k)
 unfolding StateFits SiteFits IsFlat UseFits
-assigned_fits (ToAssign p x site) e k h w = ended_change_fits site (Assign p x e Done) k h (refl, (omega arith, tt))
+assigned_fits (ToAssign p x site) e k h w = ended_change_fits site (Assign p x e Done) k h (flat_piece site (Assign p x e Done) h (refl, (omega arith, tt)))
 assigned_fits (ToInitialise kind p x outer) e k h w = folded_fits outer (Assign p x e Done) h (depth_fits outer h, (omega arith, tt))
-assigned_fits (ToUpdate p x u site) e k h w = ended_change_fits site (updated p x u e) k h (refl, (omega arith, tt))
+assigned_fits (ToUpdate p x u site) e k h w = ended_change_fits site (updated p x u e) k h (flat_piece site (updated p x u e) h (refl, (omega arith, tt)))
 assigned_fits (ToAssert p outer) e k h w = tt
 assigned_fits (ToChoose p outer) e k h w = tt
 assigned_fits (ToLoop p outer) e k h w = tt
 assigned_fits (ToRepeat _ p outer) e k h w = (h.0, w, h.1, h.2)
+assigned_fits (ToRedo p c q outer) e k h w = tt
+assigned_fits (ToReturn p outer) e k h w = (h, (depth_fits outer h, (w, tt)))
 
 ended_fits : (fs : List Frame) (u : Use) (e : Term) (k : ℕ) → UseFits u → weight fs + operators e ≤ k → k ≤ 64 → IfSome (ended_by fs u e) (λ next. StateFits next k)
 unfolding weight
@@ -342,6 +399,8 @@ initialised_fits (ToAssert p outer) e k h w = tt
 initialised_fits (ToChoose p outer) e k h w = tt
 initialised_fits (ToLoop p outer) e k h w = tt
 initialised_fits (ToRepeat _ p outer) e k h w = tt
+initialised_fits (ToRedo p c q outer) e k h w = tt
+initialised_fits (ToReturn p outer) e k h w = tt
 
 followed_fits : (fs : List Frame) (u : Use) (e : Term) (k : ℕ) → UseFits u → weight fs + operators e ≤ k → k ≤ 64 → IfSome (followed_by fs u e) (λ next. StateFits next k)
 unfolding weight
@@ -367,13 +426,13 @@ named_fits q x site signs.MinusEquals h = (h, omega arith, omega arith)
 named_fits q x site signs.StarEquals h = (h, omega arith, omega arith)
 named_fits q x site signs.SlashEquals h = (h, omega arith, omega arith)
 named_fits q x site signs.PercentEquals h = (h, omega arith, omega arith)
-named_fits q x site signs.PlusPlus h = (h, (refl, (omega arith, tt)))
-named_fits q x site signs.MinusMinus h = (h, (refl, (omega arith, tt)))
+named_fits q x site signs.PlusPlus h = (h, flat_piece site (changed_by_one q x Raise) h (refl, (omega arith, tt)))
+named_fits q x site signs.MinusMinus h = (h, flat_piece site (changed_by_one q x Lower) h (refl, (omega arith, tt)))
 named_fits q x site _ h = tt
 
 counting_fits : (q : Place) (u : Count) (site : Site) (s : Sign) → SiteFits site → IfSome (counting q u site s) (λ next. StateFits next 0)
 unfolding StateFits IsFlat PendingFits
-counting_fits q u site (signs.Name x) h = (h, (refl, (omega arith, tt)))
+counting_fits q u site (signs.Name x) h = (h, flat_piece site (changed_by_one q x u) h (refl, (omega arith, tt)))
 counting_fits q u site _ h = tt
 
 -- what stands in the parentheses of a `for`
@@ -723,16 +782,6 @@ after_parameters_fits (ToPrototype secs ds) signs.Semicolon = tt
 after_parameters_fits (ToMain ds) signs.LeftBrace = (omega arith, tt)
 after_parameters_fits _ _ = tt
 
-returning_fits : (p : Place) (ds : List Declared) (made : Code) (s : Sign) → Fine 0 made → IfSome (returning p ds made s) (λ next. StateFits next 0)
-unfolding StateFits
-returning_fits p ds made (signs.Number n) h = fine_followed 0 made (Skip p Done) h (omega arith, tt)
-returning_fits p ds made _ h = tt
-
-closing_fits : (ds : List Declared) (made : Code) (p : Place) (s : Sign) → Fine 0 made → IfSome (closing ds made p s) (λ next. StateFits next 0)
-unfolding StateFits
-closing_fits ds made p signs.RightBrace h = h
-closing_fits ds made p _ h = tt
-
 over_fits : (f : File) (parts : List Tailing) (s : Sign) → Fine 0 f.body → IfSome (over f parts s) (λ next. StateFits next 0)
 unfolding StateFits
 over_fits f parts (signs.GroupIf n) h = h
@@ -742,7 +791,7 @@ over_fits f (part ∷ parts) signs.GroupEnd h = h
 over_fits f _ _ h = tt
 
 step_fits : (state : ReadingState) (p : Place) (s : Sign) (k : ℕ) → is_nested state s ≡ false → is_long state s k ≡ false → StateFits state k → IfSome (step state p s) (λ next. StateFits next (counted state s k))
-unfolding StateFits SiteFits IsFlat UseFits PendingFits weight
+unfolding StateFits SiteFits IsFlat UseFits PieceFits PendingFits weight
 step_fits (Outside secs ds) p s k d l h = outside_fits secs ds s
 step_fits (AfterStatic secs ds) p s k d l h = static_fits secs ds s
 step_fits (AfterExtern secs ds) p s k d l h = extern_fits secs ds s
@@ -767,13 +816,13 @@ step_fits (Parameters aim) p s k d l h = open_fits (InParameters aim) s tt
 step_fits (InParameters aim) p s k d l h = in_parameters_fits aim s
 step_fits (AfterVoid aim) p s k d l h = close_fits (AfterParameters aim) s tt
 step_fits (AfterParameters aim) p s k d l h = after_parameters_fits aim s
-step_fits (Ready outer) p s k d l h = begin_fits outer p s 0 d h
+step_fits (Ready outer) p s k d l h = begin_fits outer p s d h
 step_fits (LocalConst outer) p s k d l h = const_word_fits outer s h
 step_fits (LocalType kind words outer) p s k d l h = local_type_fits kind outer p s words h
 step_fits (NextLocal kind outer) p s k d l h = next_local_fits kind outer p s h
 step_fits (LocalNamed kind q x outer) p s k d l h = local_named_fits kind q x outer s h
 step_fits (InStatic part outer) p s k d l h = static_part_fits part outer s h
-step_fits (Ended outer c) p s k d l h = on_fits outer c p s 0 d h.0 h.1
+step_fits (Ended outer c) p s k d l h = on_fits outer c p s d h.0 h.1
 step_fits (Wants fs u) p s k d l h = want_fits fs u p s k l h
 step_fits (Has fs u e) p s k d l h = have_fits fs u e p s k l h
 step_fits (Counting q u site) p s k d l h = counting_fits q u site s h
@@ -783,15 +832,14 @@ step_fits (ForOpens outer) p s k d l h = open_fits (StartComes outer) s h
 step_fits (StartComes outer) p s k d l h = start_fits outer p s h.0 h.1
 step_fits (TestComes start outer) p s k d l h = test_fits start outer p s k l h
 step_fits (StepComes start q e outer) p s k d l h = step_part_fits start q e outer p s h
+step_fits (RedoOpens q c outer) p s k d l h = open_fits (RedoComes q c outer) s h
+step_fits (RedoComes q c outer) p s k d l h = want_fits [] (ToRedo q c p outer) p s 0 l (h, omega arith, omega arith)
 step_fits (VoidComes q outer) p s k d l h = void_fits (VoidCloses q outer) s h
 step_fits (VoidCloses q outer) p s k d l h = close_fits (CallComes q outer) s h
-step_fits (CallComes q outer) p s k d l h = function_fits (CallOpens (OfStatement (AsStatement outer) (Skip q Done))) s (h, (refl, tt))
+step_fits (CallComes q outer) p s k d l h = function_fits (CallOpens (OfStatement (AsStatement outer) (Skip q Done))) s (h, (depth_fits outer h, tt))
 step_fits (CallOpens made) p s k d l h = open_fits (CallCloses made) s h
 step_fits (CallCloses made) p s k d l h = close_fits (Finishing made) s h
 step_fits (Finishing made) p s k d l h = finishing_fits made s h
-step_fits (Returning q ds made) p s k d l h = returning_fits q ds made s h
-step_fits (Returned ds made) p s k d l h = semicolon_fits (Closing ds made) s h
-step_fits (Closing ds made) p s k d l h = closing_fits ds made p s h
 step_fits (Over f parts) p s k d l h = over_fits f parts s h
 
 -- ---- the run

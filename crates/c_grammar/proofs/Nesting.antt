@@ -8,7 +8,7 @@ use Rattle.c_tree.specs.Tree.{Term, Code}
 use Rattle.c_grammar.specs.declared.items.Item.{Item}
 use Rattle.c_grammar.specs.declared.items.Sign.{Sign}
 use Rattle.c_grammar.specs.declared.items.Sign.TheVariants as signs
-use Rattle.c_grammar.specs.Grammar.{at, Prefix, Positive, Negative, Inverse, prefix_sign, Expresses, number, name, group, prefix, loose, binary, Update, Sum, Difference, Product, Quotient, Remainder, update_sign, Count, Raise, Lower, count_sign, LocalDeclarator, uninitialised, initialised, from_call, Shape, Listed, Stated, Chained, Locals, Writes, none, more, choice, local, static_local, last_local, next_local, ends, otherwise, elif, change, Callable, of_input, of_function, Changes, assignment, input_taken, compound_assignment, count_behind, count_before, Clause, no_clause, clause, Tests, no_test, test, call, void_call, assert, skip, block, while, for, if_then, if_else, Optional, absent, present, Typed, int, int32, signed, signed_int, int_signed, Qualifier, Unqualified, Constant, Counted, behind, Qualified, unqualified, const_before, const_behind, Begins, only_type, then_type, enumeration, Declarator, bare, positive, negative, counted, Ending, variables_end, constants_end, enumeration_end, comma_end, Defines, defined, negative_defined, enclosed, negative_enclosed, Part, Outer, Vars, Later, Declares, nothing, variables, prototype, void_prototype, definition, section, last_var, next_var, end_part, else_part, elif_part, Returns, no_return, return, Gap, Gaps, GapRest, Empty, no_more, empty_section, empty_end, empty_else, empty_elif, Body, body, Main, main, File, Forms, file}
+use Rattle.c_grammar.specs.Grammar.{at, Prefix, Positive, Negative, Inverse, prefix_sign, Expresses, number, name, group, prefix, loose, binary, Update, Sum, Difference, Product, Quotient, Remainder, update_sign, Count, Raise, Lower, count_sign, LocalDeclarator, uninitialised, initialised, from_call, Shape, Listed, Stated, Chained, Locals, Writes, none, more, choice, local, static_local, last_local, next_local, ends, otherwise, elif, change, Callable, of_input, of_function, Changes, assignment, input_taken, compound_assignment, count_behind, count_before, Clause, no_clause, clause, Tests, no_test, test, call, void_call, assert, skip, block, while, for, if_then, if_else, do_while, break, continue, return, Optional, absent, present, Typed, int, int32, signed, signed_int, int_signed, Qualifier, Unqualified, Constant, Counted, behind, Qualified, unqualified, const_before, const_behind, Begins, only_type, then_type, enumeration, Declarator, bare, positive, negative, counted, Ending, variables_end, constants_end, enumeration_end, comma_end, Defines, defined, negative_defined, enclosed, negative_enclosed, Part, Outer, Vars, Later, Declares, nothing, variables, prototype, void_prototype, definition, section, last_var, next_var, end_part, else_part, elif_part, Gap, Gaps, GapRest, Empty, no_more, empty_section, empty_end, empty_else, empty_elif, Body, body, Main, main, File, Forms, file}
 
 -- ---- what nests
 
@@ -138,10 +138,6 @@ definition_flat (negative_defined p q r s x n) = (refl, (refl, (refl, (refl, tt)
 definition_flat (enclosed p q r s t x n) = (refl, (refl, (refl, (refl, (refl, tt)))))
 definition_flat (negative_enclosed p q r s t u x n) = (refl, (refl, (refl, (refl, (refl, (refl, tt))))))
 
-return_flat : {ts : List Item} {c : Code} → Returns ts c → AreFlat ts
-return_flat no_return = tt
-return_flat (return p q r n) = (refl, (refl, (refl, tt)))
-
 -- ---- declarations
 
 -- declarators up to the brace of an `enum`, and that brace with its semicolon
@@ -225,9 +221,9 @@ declared_nests (elif_part p n gs a b) = next_part p n (declared_nests a) (declar
 -- ---- statements
 
 abbrev pub ShapeNests : Shape → List Item → Type 0
-ShapeNests Listed ts = Nests Whole ts
-ShapeNests (Stated b) ts = Nests Whole ts
-ShapeNests Chained ts = Nests Rest ts
+ShapeNests (Listed i) ts = Nests Whole ts
+ShapeNests (Stated i b) ts = Nests Whole ts
+ShapeNests (Chained i) ts = Nests Rest ts
 ShapeNests (Locals kind) ts = AreFlat ts
 
 -- an expression behind an open parenthesis and what stands behind it
@@ -256,6 +252,10 @@ code_nests (for p q r z {b} {ts} {us} {vs} {ws} a t d s) =
     flat _ refl (flat _ refl (flat_before ts (clause_flat a) (flat _ refl (flat_before us (tests_flat t) (flat_before vs (clause_flat d) (flat _ refl (code_nests s)))))))
 code_nests (if_then p q r e s) = flat _ refl (flat _ refl (closed e (flat _ refl (code_nests s))))
 code_nests (if_else p q r z e s t) = flat _ refl (flat _ refl (closed e (flat _ refl (nests_both (code_nests s) (flat _ refl (code_nests t))))))
+code_nests (do_while p q r s t l e) = flat _ refl (nests_both (code_nests l) (flat _ refl (flat _ refl (closed e (flat _ refl (flat _ refl no_item))))))
+code_nests (break p q) = flat _ refl (flat _ refl no_item)
+code_nests (continue p q) = flat _ refl (flat _ refl no_item)
+code_nests (return p q e) = flat _ refl (closed e (flat _ refl no_item))
 
 -- ---- files
 
@@ -272,9 +272,7 @@ gap_nests (empty_elif p n a b) = next_part p n (gap_nests a) (gap_nests b)
 
 -- what is in the braces of `main`, its brace and what follows, behind its first brace
 pub body_nests : {ts : List Item} {c : Code} {p : Place} (t : Place) → Body ts c p → Nests Whole (at t signs.LeftBrace ∷ ts)
-body_nests t (body p {us} {vs} {ws} s r e) =
-    subst (λ ts. Nests Whole (at t signs.LeftBrace ∷ ts)) (append_assoc us vs (at p signs.RightBrace ∷ ws))
-    (braces t p (nests_both (code_nests s) (flat_nests vs (return_flat r))) (gap_nests e))
+body_nests t (body p s e) = braces t p (code_nests s) (gap_nests e)
 
 pub main_nests : {ts : List Item} {c : Code} {p : Place} → Main ts c p → Nests Whole ts
 main_nests (main q r s t u {ts} {us} {vs} y o b) =

@@ -8,7 +8,7 @@ use Rattle.c_tree.specs.Tree.{Term, Code}
 use Rattle.c_grammar.specs.declared.items.Item.{Item}
 use Rattle.c_grammar.specs.declared.items.Sign.{Sign}
 use Rattle.c_grammar.specs.declared.items.Sign.TheVariants as signs
-use Rattle.c_grammar.specs.Grammar.{at, Prefix, Positive, Negative, Inverse, prefix_sign, Expresses, number, name, group, prefix, loose, binary, Update, Sum, Difference, Product, Quotient, Remainder, update_sign, Count, Raise, Lower, count_sign, LocalDeclarator, uninitialised, initialised, from_call, Shape, Listed, Stated, Chained, Locals, Writes, none, more, choice, local, static_local, last_local, next_local, ends, otherwise, elif, change, Callable, of_input, of_function, Changes, assignment, input_taken, compound_assignment, count_behind, count_before, Clause, no_clause, clause, Tests, no_test, test, call, void_call, assert, skip, block, while, for, if_then, if_else, Optional, absent, present, Typed, int, int32, signed, signed_int, int_signed, Qualifier, Qualified, unqualified, const_before, const_behind, Begins, only_type, then_type, enumeration, Declarator, bare, positive, negative, counted, Ending, variables_end, constants_end, enumeration_end, comma_end, Defines, defined, negative_defined, enclosed, negative_enclosed, Part, Outer, Vars, Later, Declares, nothing, variables, prototype, void_prototype, definition, section, last_var, next_var, end_part, else_part, elif_part, Returns, no_return, return, Gap, Empty, no_more, empty_section, empty_end, empty_else, empty_elif, Body, body, Main, main, file}
+use Rattle.c_grammar.specs.Grammar.{at, Prefix, Positive, Negative, Inverse, prefix_sign, Expresses, number, name, group, prefix, loose, binary, Update, Sum, Difference, Product, Quotient, Remainder, update_sign, Count, Raise, Lower, count_sign, LocalDeclarator, uninitialised, initialised, from_call, Shape, Listed, Stated, Chained, Locals, Writes, none, more, choice, local, static_local, last_local, next_local, ends, otherwise, elif, change, Callable, of_input, of_function, Changes, assignment, input_taken, compound_assignment, count_behind, count_before, Clause, no_clause, clause, Tests, no_test, test, call, void_call, assert, skip, block, while, for, if_then, if_else, do_while, break, continue, return, Optional, absent, present, Typed, int, int32, signed, signed_int, int_signed, Qualifier, Qualified, unqualified, const_before, const_behind, Begins, only_type, then_type, enumeration, Declarator, bare, positive, negative, counted, Ending, variables_end, constants_end, enumeration_end, comma_end, Defines, defined, negative_defined, enclosed, negative_enclosed, Part, Outer, Vars, Later, Declares, nothing, variables, prototype, void_prototype, definition, section, last_var, next_var, end_part, else_part, elif_part, Gap, Empty, no_more, empty_section, empty_end, empty_else, empty_elif, Body, body, Main, main, file}
 use Rattle.c_grammar.specs.Locals.{AreOutside, DirectivesStandOutside}
 
 -- text in front of which directives may stand: where they stand outside declarators in what follows it, they do in the whole
@@ -176,9 +176,9 @@ tests_outside (test s {x} {ts} e) = both (x ∷ ts) (at s signs.Semicolon ∷ []
 
 -- the declarators of a declaration stand behind its type
 abbrev ShapeLeaves : Shape → List Item → Type 0
-ShapeLeaves Listed ts = Leaves ts
-ShapeLeaves (Stated b) ts = Leaves ts
-ShapeLeaves Chained ts = Leaves ts
+ShapeLeaves (Listed i) ts = Leaves ts
+ShapeLeaves (Stated i b) ts = Leaves ts
+ShapeLeaves (Chained i) ts = Leaves ts
 ShapeLeaves (Locals kind) ts = (w : List Item) → AreOutside false None w → AreOutside true None (ts ++ w)
 
 code_outside : {s : Shape} {ts : List Item} {c : Code} → Writes s ts c → ShapeLeaves s ts
@@ -210,12 +210,14 @@ code_outside (for p q r z {b} {ts} {us} {vs} {ws} a t d s) = λ w h.
 code_outside (if_then p q r {b} {ts} {us} e s) = λ w h. (tt, (tt, closed e (at r signs.Close ∷ us) w (tt, code_outside s w h)))
 code_outside (if_else p q r z {b} {ts} {us} {vs} e s t) = λ w h.
     (tt, (tt, closed e (at r signs.Close ∷ (us ++ at z signs.Else ∷ vs)) w (tt, both us (at z signs.Else ∷ vs) (code_outside s) (λ v i. (tt, code_outside t v i)) w h)))
+code_outside (do_while p q r s t {b} {ts} {us} {x} l e) = λ w h.
+    let tail : List Item = at q signs.While ∷ at r signs.Open ∷ x ∷ (us ++ at s signs.Close ∷ at t signs.Semicolon ∷ []) in
+    (tt, both ts tail (code_outside l) (λ v i. (tt, (tt, closed e (at s signs.Close ∷ at t signs.Semicolon ∷ []) v (tt, (tt, i))))) w h)
+code_outside (break p q) = λ w h. (tt, (tt, h))
+code_outside (continue p q) = λ w h. (tt, (tt, h))
+code_outside (return p q e) = λ w h. (tt, closed e (at q signs.Semicolon ∷ []) w (tt, h))
 
 -- ---- files
-
-return_outside : {ts : List Item} {c : Code} → Returns ts c → Leaves ts
-return_outside no_return = λ w h. h
-return_outside (return p q r n) = λ w h. (tt, (tt, (tt, h)))
 
 gap_outside : {s : Gap} {ts : List Item} → Empty s ts → Leaves ts
 gap_outside no_more = λ w h. h
@@ -225,7 +227,7 @@ gap_outside (empty_else p q {us} a) = λ w h. ((refl, refl), both us (at q signs
 gap_outside (empty_elif p n {us} {vs} a b) = λ w h. ((refl, refl), both us vs (gap_outside a) (gap_outside b) w h)
 
 body_outside : {ts : List Item} {c : Code} {p : Place} → Body ts c p → Leaves ts
-body_outside (body p {us} {vs} {ws} s r e) = both us (vs ++ at p signs.RightBrace ∷ ws) (code_outside s) (both vs (at p signs.RightBrace ∷ ws) (return_outside r) (λ w h. (tt, gap_outside e w h)))
+body_outside (body p {us} {vs} s e) = both us (at p signs.RightBrace ∷ vs) (code_outside s) (λ w h. (tt, gap_outside e w h))
 
 main_outside : {ts : List Item} {c : Code} {p : Place} → Main ts c p → Leaves ts
 main_outside (main q r s t u {ts} {us} {vs} y o b) = λ w h.

@@ -8,30 +8,30 @@ use Rattle.c_grammar.specs.declared.items.Sign.TheVariants as signs
 use Rattle.c_grammar.specs.declared.items.Item.{Item}
 use Rattle.c_grammar.specs.Ahead.{IsList}
 use Rattle.c_grammar.specs.Grammar.{at, Listed, Stated, Qualifier, Qualified, LocalDeclarator, Changes, clause, Writes, none, more, choice, local, static_local, last_local, next_local, change, while, for, if_then, if_else}
-use Rattle.c_grammar.specs.Machine.{Stack, Top, Braces, Yes, No, ThenOf, ElseOf, LoopOf, Site, AsStatement, AsStart, AsStep, folded, ended_change, closed_change}
-use Rattle.c_grammar.proofs.Standing.{LoopHead, while_head, for_head, Read, AtSite, InDeclaration, PendsAt, Piece, Stands}
+use Rattle.c_grammar.specs.Machine.{Stack, Top, Braces, Yes, No, ThenOf, ElseOf, LoopOf, DoOf, Site, AsStatement, AsStart, AsStep, is_in_loop, folded, placed, ended_change, closed_change}
+use Rattle.c_grammar.proofs.Standing.{LoopHead, while_head, for_head, Read, AtSite, InDeclaration, PendsAt, Piece, StandsOn, Stands}
 use Rattle.c_grammar.proofs.Complete.{followed-none, followed-assoc, folded-none, folded-twice}
 
-single : {d : Bool} {ts : List Item} {c : Code} → Writes (Stated d) ts c → Writes Listed ts c
-single {d} {ts} {c} s =
-    let h : Writes Listed (ts ++ []) (followed c Done) = more s none in
-    subst (λ (y : List Item). Writes Listed y c) (append-nil ts) (subst (λ (y : Code). Writes Listed (ts ++ []) y) (followed-none c) h)
+single : {d : Bool} {ts : List Item} {c : Code} {i : Bool} → Writes (Stated i d) ts c → Writes (Listed i) ts c
+single {d} {ts} {c} {i} s =
+    let h : Writes (Listed i) (ts ++ []) (followed c Done) = more s none in
+    subst (λ (y : List Item). Writes (Listed i) y c) (append-nil ts) (subst (λ (y : Code). Writes (Listed i) (ts ++ []) y) (followed-none c) h)
 
-pub joined : {ts us : List Item} {c d : Code} → Writes Listed ts c → Writes Listed us d → Writes Listed (ts ++ us) (followed c d)
+pub joined : {ts us : List Item} {c d : Code} {i : Bool} → Writes (Listed i) ts c → Writes (Listed i) us d → Writes (Listed i) (ts ++ us) (followed c d)
 joined none t = t
-joined {us = us} {d = d} (more {b} {ts = ts} {us = vs} {c} {d = e} s l) t =
-    subst (λ (y : Code). Writes Listed ((ts ++ vs) ++ us) y) (sym (followed-assoc c e d)) (subst (λ (y : List Item). Writes Listed y (followed c (followed e d))) (sym (append_assoc ts vs us)) (more s (joined l t)))
-joined {us = us} {d = d} (choice p n {ts = ts} {us = vs} {vs = ws} {c} {d = e} {e = f} s t l) m =
+joined {us = us} {d = d} {i = i} (more {b} {ts = ts} {us = vs} {c} {d = e} s l) t =
+    subst (λ (y : Code). Writes (Listed i) ((ts ++ vs) ++ us) y) (sym (followed-assoc c e d)) (subst (λ (y : List Item). Writes (Listed i) y (followed c (followed e d))) (sym (append_assoc ts vs us)) (more s (joined l t)))
+joined {us = us} {d = d} {i = i} (choice p n {ts = ts} {us = vs} {vs = ws} {c} {d = e} {e = f} s t l) m =
     let is : (ts ++ (vs ++ ws)) ++ us ≡ ts ++ (vs ++ (ws ++ us)) = append_assoc ts (vs ++ ws) us ∙ ap (λ (x : List Item). ts ++ x) (append_assoc vs ws us) in
-    subst (λ (y : List Item). Writes Listed (at p (signs.GroupIf n) ∷ y) (Cond n c e (followed f d))) (sym is) (choice p n s t (joined l m))
-joined {us = us} {d = d} (local {ts = ts} {us = vs} {vs = ws} {c} {d = e} q s l) t =
+    subst (λ (y : List Item). Writes (Listed i) (at p (signs.GroupIf n) ∷ y) (Cond n c e (followed f d))) (sym is) (choice p n s t (joined l m))
+joined {us = us} {d = d} {i = i} (local {ts = ts} {us = vs} {vs = ws} {c} {d = e} q s l) t =
     let is : (ts ++ (vs ++ ws)) ++ us ≡ ts ++ (vs ++ (ws ++ us)) = append_assoc ts (vs ++ ws) us ∙ ap (λ (x : List Item). ts ++ x) (append_assoc vs ws us) in
-    subst (λ (y : Code). Writes Listed ((ts ++ (vs ++ ws)) ++ us) y) (sym (followed-assoc c e d)) (subst (λ (y : List Item). Writes Listed y (followed c (followed e d))) (sym is) (local q s (joined l t)))
-joined {us = us} {d = d} (static_local p {ts = ts} {us = vs} {vs = ws} {c} q v l) t =
+    subst (λ (y : Code). Writes (Listed i) ((ts ++ (vs ++ ws)) ++ us) y) (sym (followed-assoc c e d)) (subst (λ (y : List Item). Writes (Listed i) y (followed c (followed e d))) (sym is) (local q s (joined l t)))
+joined {us = us} {d = d} {i = i} (static_local p {ts = ts} {us = vs} {vs = ws} {c} q v l) t =
     let is : (ts ++ (vs ++ ws)) ++ us ≡ ts ++ (vs ++ (ws ++ us)) = append_assoc ts (vs ++ ws) us ∙ ap (λ (x : List Item). ts ++ x) (append_assoc vs ws us) in
-    subst (λ (y : List Item). Writes Listed (at p signs.Static ∷ y) (followed c d)) (sym is) (static_local p q v (joined l t))
+    subst (λ (y : List Item). Writes (Listed i) (at p signs.Static ∷ y) (followed c d)) (sym is) (static_local p q v (joined l t))
 
-pub piece : (d : Bool) (outer : Stack) (ts : List Item) (c : Code) → Writes (Stated d) ts c → Piece d outer ts c
+pub piece : (d : Bool) (outer : Stack) (ts : List Item) (c : Code) → Writes (Stated (is_in_loop outer) d) ts c → Piece d outer ts c
 piece d (Top ds made) ts c s = single s
 piece d (Braces p made outer) ts c s = single s
 piece d (Yes links n made outer) ts c s = single s
@@ -39,8 +39,9 @@ piece d (No links n first made outer) ts c s = single s
 piece d (ThenOf p e outer) ts c s = s
 piece d (ElseOf p e first outer) ts c s = s
 piece d (LoopOf start p e advance outer) ts c s = s
+piece d (DoOf p outer) ts c s = s
 
-pub listed : (outer : Stack) (ts : List Item) (c : Code) → IsList outer → Writes Listed ts c → Piece false outer ts c
+pub listed : (outer : Stack) (ts : List Item) (c : Code) → IsList outer → Writes (Listed (is_in_loop outer)) ts c → Piece false outer ts c
 listed (Top ds made) ts c is s = s
 listed (Braces p made outer) ts c is s = s
 listed (Yes links n made outer) ts c is s = s
@@ -48,34 +49,48 @@ listed (No links n first made outer) ts c is s = s
 listed (ThenOf p e outer) ts c is s = absurd is
 listed (ElseOf p e first outer) ts c is s = absurd is
 listed (LoopOf start p e advance outer) ts c is s = absurd is
+listed (DoOf p outer) ts c is s = absurd is
 
 -- a loop from what stands before its body
-pub loops : {d : Bool} {start : Code} {p : Place} {e : Term} {advance : Code} {ts us : List Item} {c : Code} → LoopHead start p e advance ts → Writes (Stated d) us c → Writes (Stated d) (ts ++ us) (followed start (While p e advance c Done))
-loops {d = d} {us = us} {c = c} (while_head p q r {ts} {e} s) h =
+pub loops : {d : Bool} {start : Code} {p : Place} {e : Term} {advance : Code} {ts us : List Item} {c : Code} {i : Bool} → LoopHead start p e advance ts → Writes (Stated true d) us c → Writes (Stated i d) (ts ++ us) (followed start (While p e advance c Done))
+loops {d = d} {us = us} {c = c} {i = i} (while_head p q r {ts} {e} s) h =
     let is : at p signs.While ∷ at q signs.Open ∷ (ts ++ at r signs.Close ∷ us) ≡ (at p signs.While ∷ at q signs.Open ∷ (ts ++ at r signs.Close ∷ [])) ++ us = simp append_assoc in
-    subst (λ (y : List Item). Writes (Stated d) y (While p e Done c Done)) is (while p q r s h)
-loops {d = d} {us = us} {c = c} (for_head p q r z {ts} {us = vs} {vs = ws} {start} {advance} {t} {e} a b s) h =
+    subst (λ (y : List Item). Writes (Stated i d) y (While p e Done c Done)) is (while p q r s h)
+loops {d = d} {us = us} {c = c} {i = i} (for_head p q r z {ts} {us = vs} {vs = ws} {start} {advance} {t} {e} a b s) h =
     let is : at p signs.For ∷ at q signs.Open ∷ (ts ++ at r signs.Semicolon ∷ (vs ++ (ws ++ at z signs.Close ∷ us))) ≡ (at p signs.For ∷ at q signs.Open ∷ (ts ++ at r signs.Semicolon ∷ (vs ++ (ws ++ at z signs.Close ∷ [])))) ++ us = simp append_assoc in
-    subst (λ (y : List Item). Writes (Stated d) y (followed start (While t e advance c Done))) is (for p q r z a b s h)
+    subst (λ (y : List Item). Writes (Stated i d) y (followed start (While t e advance c Done))) is (for p q r z a b s h)
 
-pub fold_is : (d : Bool) (outer : Stack) (c : Code) (b ts : List Item) → Read outer b → Piece d outer ts c → Read (folded outer c) (b ++ ts)
-fold_is d (Top ds made) c b ts r s = (r.0, r.1 ++ ts, r.2, joined r.3 s, ap (λ (y : List Item). y ++ ts) r.4 ∙ append_assoc r.0 r.1 ts)
-fold_is d (Braces p made outer) c b ts r s = (r.0, r.1 ++ ts, r.2, joined r.3 s, ap (λ (y : List Item). y ++ ts) r.4 ∙ append_assoc r.0 (at p signs.LeftBrace ∷ r.1) ts)
-fold_is d (Yes links n made outer) c b ts r s = (r.0, r.1, r.2 ++ ts, r.3, r.4, r.5, joined r.6 s, ap (λ (y : List Item). y ++ ts) r.7 ∙ append_assoc r.0 (r.1 ++ r.2) ts ∙ ap (λ (y : List Item). r.0 ++ y) (append_assoc r.1 r.2 ts))
-fold_is d (No links n first made outer) c b ts r s = (r.0, r.1, r.2, r.3 ++ ts, r.4, r.5, r.6, r.7, r.8, joined r.9 s, ap (λ (y : List Item). y ++ ts) r.10 ∙ simp append_assoc)
-fold_is d (ThenOf p e outer) c b ts r s =
+-- a list is put behind what its list has
+pub fold_is : (outer : Stack) (c : Code) (b ts : List Item) → IsList outer → Read outer b → Writes (Listed (is_in_loop outer)) ts c → Read (folded outer c) (b ++ ts)
+fold_is (Top ds made) c b ts is r s = (r.0, r.1 ++ ts, r.2, joined r.3 s, ap (λ (y : List Item). y ++ ts) r.4 ∙ append_assoc r.0 r.1 ts)
+fold_is (Braces p made outer) c b ts is r s = (r.0, r.1 ++ ts, r.2, joined r.3 s, ap (λ (y : List Item). y ++ ts) r.4 ∙ append_assoc r.0 (at p signs.LeftBrace ∷ r.1) ts)
+fold_is (Yes links n made outer) c b ts is r s = (r.0, r.1, r.2 ++ ts, r.3, r.4, r.5, joined r.6 s, ap (λ (y : List Item). y ++ ts) r.7 ∙ append_assoc r.0 (r.1 ++ r.2) ts ∙ ap (λ (y : List Item). r.0 ++ y) (append_assoc r.1 r.2 ts))
+fold_is (No links n first made outer) c b ts is r s = (r.0, r.1, r.2, r.3 ++ ts, r.4, r.5, r.6, r.7, r.8, joined r.9 s, ap (λ (y : List Item). y ++ ts) r.10 ∙ simp append_assoc)
+fold_is (ThenOf p e outer) c b ts is r s = absurd is
+fold_is (ElseOf p e first outer) c b ts is r s = absurd is
+fold_is (LoopOf start p e advance outer) c b ts is r s = absurd is
+fold_is (DoOf p outer) c b ts is r s = absurd is
+
+-- a statement is put where it belongs
+pub place_is : (d : Bool) (outer : Stack) (c : Code) (b ts : List Item) → Read outer b → Piece d outer ts c → StandsOn (placed outer c) (b ++ ts)
+place_is d (Top ds made) c b ts r s = fold_is (Top ds made) c b ts tt r s
+place_is d (Braces p made outer) c b ts r s = fold_is (Braces p made outer) c b ts tt r s
+place_is d (Yes links n made outer) c b ts r s = fold_is (Yes links n made outer) c b ts tt r s
+place_is d (No links n first made outer) c b ts r s = fold_is (No links n first made outer) c b ts tt r s
+place_is d (ThenOf p e outer) c b ts r s =
     let text : List Item = at p signs.If ∷ at r.0 signs.Open ∷ (r.3 ++ at r.1 signs.Close ∷ ts) in
     let is : b ++ ts ≡ r.2 ++ text = ap (λ (y : List Item). y ++ ts) r.6 ∙ simp append_assoc in
-    subst (Read (folded outer (If p e c Done Done))) (sym is) (fold_is true outer (If p e c Done Done) r.2 text r.4 (piece true outer text (If p e c Done Done) (if_then p r.0 r.1 r.5 s)))
-fold_is d (ElseOf p e first outer) c b ts r s =
+    subst (StandsOn (placed outer (If p e c Done Done))) (sym is) (place_is true outer (If p e c Done Done) r.2 text r.4 (piece true outer text (If p e c Done Done) (if_then p r.0 r.1 r.5 s)))
+place_is d (ElseOf p e first outer) c b ts r s =
     let text : List Item = at p signs.If ∷ at r.0 signs.Open ∷ (r.4 ++ at r.1 signs.Close ∷ (r.5 ++ at r.2 signs.Else ∷ ts)) in
     let is : b ++ ts ≡ r.3 ++ text = ap (λ (y : List Item). y ++ ts) r.9 ∙ simp append_assoc in
-    subst (Read (folded outer (If p e first c Done))) (sym is) (fold_is d outer (If p e first c Done) r.3 text r.6 (piece d outer text (If p e first c Done) (if_else p r.0 r.1 r.2 r.7 r.8 s)))
-fold_is d (LoopOf start p e advance outer) c b ts r s =
+    subst (StandsOn (placed outer (If p e first c Done))) (sym is) (place_is d outer (If p e first c Done) r.3 text r.6 (piece d outer text (If p e first c Done) (if_else p r.0 r.1 r.2 r.7 r.8 s)))
+place_is d (LoopOf start p e advance outer) c b ts r s =
     let text : List Item = r.1 ++ ts in
     let made : Code = followed start (While p e advance c Done) in
     let is : b ++ ts ≡ r.0 ++ text = ap (λ (y : List Item). y ++ ts) r.4 ∙ append_assoc r.0 r.1 ts in
-    subst (Read (folded outer made)) (sym is) (fold_is d outer made r.0 text r.2 (piece d outer text made (loops r.3 s)))
+    subst (StandsOn (placed outer made)) (sym is) (place_is d outer made r.0 text r.2 (piece d outer text made (loops r.3 s)))
+place_is d (DoOf p outer) c b ts r s = (r.0, ts, d, r.1, s, ap (λ (y : List Item). y ++ ts) r.2 ∙ append_assoc r.0 (at p signs.Do ∷ []) ts)
 
 -- ---- changes
 
@@ -127,7 +142,7 @@ declaration_begins {kind} outer b us r is q = record {
   is_read = r;
   is_list = is;
   folds = sym (folded-none outer is);
-  goes_on = λ ts c s. subst (λ (y : List Item). Writes Listed (us ++ y) c) (append-nil ts) (subst (Writes Listed (us ++ (ts ++ []))) (followed-none c) (local q s none));
+  goes_on = λ ts c s. subst (λ (y : List Item). Writes (Listed (is_in_loop outer)) (us ++ y) c) (append-nil ts) (subst (Writes (Listed (is_in_loop outer)) (us ++ (ts ++ []))) (followed-none c) (local q s none));
   parts = refl;
 }
 
@@ -141,7 +156,7 @@ declaration_goes_on {kind} {outer} {b} {ts} {c} p d h = let is : (us : List Item
   is_read = d.is_read;
   is_list = d.is_list;
   folds = ap (λ (y : Stack). folded y c) d.folds ∙ folded-twice d.before d.made c d.is_list;
-  goes_on = λ us e s. subst (λ (y : List Item). Writes Listed y (followed (followed d.made c) e)) (is us) (subst (Writes Listed (d.text ++ (ts ++ at p signs.Comma ∷ us))) (sym (followed-assoc d.made c e)) (d.goes_on (ts ++ at p signs.Comma ∷ us) (followed c e) (next_local p h s)));
+  goes_on = λ us e s. subst (λ (y : List Item). Writes (Listed (is_in_loop d.before)) y (followed (followed d.made c) e)) (is us) (subst (Writes (Listed (is_in_loop d.before)) (d.text ++ (ts ++ at p signs.Comma ∷ us))) (sym (followed-assoc d.made c e)) (d.goes_on (ts ++ at p signs.Comma ∷ us) (followed c e) (next_local p h s)));
   parts = ap (λ (y : List Item). y ++ (ts ++ at p signs.Comma ∷ [])) d.parts ∙ append_assoc d.start d.text (ts ++ at p signs.Comma ∷ []);
 }
 
@@ -151,7 +166,7 @@ declaration_ends {kind} {outer} {b} {ts} {c} p d h =
     let end : List Item = ts ++ at p signs.Semicolon ∷ [] in
     let text : List Item = d.text ++ end in
     let all : Code = followed d.made c in
-    let r : Read (folded d.before all) (d.start ++ text) = fold_is false d.before all d.start text d.is_read (listed d.before text all d.is_list (d.goes_on end c (last_local p h))) in
+    let r : Read (folded d.before all) (d.start ++ text) = fold_is d.before all d.start text d.is_list d.is_read (d.goes_on end c (last_local p h)) in
     let folds : folded outer c ≡ folded d.before all = ap (λ (y : Stack). folded y c) d.folds ∙ folded-twice d.before d.made c d.is_list in
     let is : b ++ end ≡ d.start ++ text = ap (λ (y : List Item). y ++ end) d.parts ∙ append_assoc d.start d.text end in
     subst (λ (y : Stack). Read y (b ++ end)) (sym folds) (subst (Read (folded d.before all)) (sym is) r)

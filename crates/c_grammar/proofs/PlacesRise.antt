@@ -1,14 +1,14 @@
 -- The places of a program are those of some of its items, in order.
-use Rattle.std.proofs.Common.{◌≡◌, List, [], ◌∷◌, ◌++◌, sym, ap, subst, ◌∙◌, append_assoc}
+use Rattle.std.proofs.Common.{List, [], ◌∷◌, ◌++◌, sym, subst}
 use Rattle.std.proofs.lemmas.List.{append-nil}
 use Rattle.fam_outer.specs.declared.faults.Place.{Place}
-use Rattle.c_tree.specs.Tree.{Term, Code, Done, While, followed}
+use Rattle.c_tree.specs.Tree.{Term, Code, Done, While}
 use Rattle.c_tree.specs.Places.{places_of}
 use Rattle.c_tree.specs.Whole.{IsBeforeAll, IsRising}
 use Rattle.c_tree.proofs.Listed.{places_of-followed}
 use Rattle.c_grammar.specs.declared.items.Item.{Item}
 use Rattle.c_grammar.specs.declared.items.Sign.TheVariants as signs
-use Rattle.c_grammar.specs.Grammar.{at, update_sign, count_sign, Changes, assignment, input_taken, compound_assignment, count_behind, count_before, Clause, no_clause, clause, Tests, no_test, test, Qualifier, LocalDeclarator, uninitialised, initialised, from_call, Shape, Writes, none, more, choice, local, static_local, last_local, next_local, ends, otherwise, elif, change, call, void_call, assert, skip, block, while, for, if_then, if_else, Returns, no_return, return, Body, body, Main, main, File, Forms, file}
+use Rattle.c_grammar.specs.Grammar.{at, update_sign, count_sign, Changes, assignment, input_taken, compound_assignment, count_behind, count_before, Clause, no_clause, clause, Tests, no_test, test, Qualifier, LocalDeclarator, uninitialised, initialised, from_call, Shape, Writes, none, more, choice, local, static_local, last_local, next_local, ends, otherwise, elif, change, call, void_call, assert, skip, block, while, for, if_then, if_else, do_while, break, continue, return, Body, body, Main, main, File, Forms, file}
 use Rattle.c_grammar.specs.Facts.{IsBeforeItems, AreRising}
 
 -- the places are those of some of the items
@@ -91,15 +91,13 @@ code_part (for p q r z {b} {ts} {us} {vs} {ws} {start} {step = advance} {c} {t} 
     subst (λ (y : List Place). IsPart y text) (sym (places_of-followed start (While t e advance c Done))) (pass (at p signs.For) (pass (at q signs.Open) (joined (clause_part first) (pass (at r signs.Semicolon) (joined (test_part middle) behind)))))
 code_part (if_then p q r {b} {ts} {us} e s) = keep (at p signs.If) (pass (at q signs.Open) (pass_all ts (pass (at r signs.Close) (padded (code_part s)))))
 code_part (if_else p q r z {b} {ts} {us} {vs} e s t) = keep (at p signs.If) (pass (at q signs.Open) (pass_all ts (pass (at r signs.Close) (joined (code_part s) (pass (at z signs.Else) (padded (code_part t)))))))
-
-return_part : {ts : List Item} {c : Code} → Returns ts c → IsPart (places_of c) ts
-return_part no_return = end
-return_part (return p q r v) = keep (at p signs.Return) (no_part (at q (signs.Number v) ∷ at r signs.Semicolon ∷ []))
+code_part (do_while p q r s t {b} {ts} {us} {x} l e) = keep (at p signs.Do) (joined (code_part l) (pass (at q signs.While) (pass (at r signs.Open) (keep x (no_part (us ++ at s signs.Close ∷ at t signs.Semicolon ∷ []))))))
+code_part (break p q) = keep (at p signs.Break) (no_part (at q signs.Semicolon ∷ []))
+code_part (continue p q) = keep (at p signs.Continue) (no_part (at q signs.Semicolon ∷ []))
+code_part (return p q {ts} e) = keep (at p signs.Return) (no_part (ts ++ at q signs.Semicolon ∷ []))
 
 body_part : {ts : List Item} {c : Code} {p : Place} → Body ts c p → IsPart (places_of c ++ p ∷ []) ts
-body_part (body p {us} {vs} {ws} {c} {d} s r e) =
-    let is : places_of c ++ (places_of d ++ p ∷ []) ≡ places_of (followed c d) ++ p ∷ [] = sym (append_assoc (places_of c) (places_of d) (p ∷ [])) ∙ ap (λ (y : List Place). y ++ p ∷ []) (sym (places_of-followed c d)) in
-    subst (λ (y : List Place). IsPart y (us ++ (vs ++ at p signs.RightBrace ∷ ws))) is (joined (code_part s) (joined (return_part r) (keep (at p signs.RightBrace) (no_part ws))))
+body_part (body p {us} {vs} s e) = joined (code_part s) (keep (at p signs.RightBrace) (no_part vs))
 
 main_part : {ts : List Item} {c : Code} {p : Place} → Main ts c p → IsPart (places_of c ++ p ∷ []) ts
 main_part (main q r s t u {ts} {us} {vs} y o b) = pass_all ts (pass (at q signs.Main) (pass (at r signs.Open) (pass_all us (pass (at s signs.Close) (pass (at t signs.LeftBrace) (body_part b))))))

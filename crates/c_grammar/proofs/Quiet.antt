@@ -7,7 +7,7 @@ use Rattle.c_tree.specs.Tree.{Term, Code}
 use Rattle.c_grammar.specs.declared.items.Item.{Item}
 use Rattle.c_grammar.specs.declared.items.Sign.{Sign}
 use Rattle.c_grammar.specs.declared.items.Sign.TheVariants as signs
-use Rattle.c_grammar.specs.Grammar.{at, Prefix, Positive, Negative, Inverse, prefix_sign, Expresses, number, name, group, prefix, loose, binary, Update, Sum, Difference, Product, Quotient, Remainder, update_sign, Count, Raise, Lower, count_sign, Callable, of_input, of_function, Changes, assignment, input_taken, compound_assignment, count_behind, count_before, Clause, no_clause, clause, Tests, no_test, test, Optional, absent, present, Typed, int, int32, signed, signed_int, int_signed, Qualifier, Qualified, unqualified, const_before, const_behind, LocalDeclarator, uninitialised, initialised, from_call, Locals, Writes, last_local, next_local, Begins, only_type, then_type, enumeration, Declarator, bare, positive, negative, counted, Ending, variables_end, constants_end, enumeration_end, comma_end, Defines, defined, negative_defined, enclosed, negative_enclosed, Vars, Declares, last_var, next_var, Returns, no_return, return}
+use Rattle.c_grammar.specs.Grammar.{at, Prefix, Positive, Negative, Inverse, prefix_sign, Expresses, number, name, group, prefix, loose, binary, Update, Sum, Difference, Product, Quotient, Remainder, update_sign, Count, Raise, Lower, count_sign, Callable, of_input, of_function, Changes, assignment, input_taken, compound_assignment, count_behind, count_before, Clause, no_clause, clause, Tests, no_test, test, Optional, absent, present, Typed, int, int32, signed, signed_int, int_signed, Qualifier, Qualified, unqualified, const_before, const_behind, LocalDeclarator, uninitialised, initialised, from_call, Locals, Writes, last_local, next_local, Begins, only_type, then_type, enumeration, Declarator, bare, positive, negative, counted, Ending, variables_end, constants_end, enumeration_end, comma_end, Defines, defined, negative_defined, enclosed, negative_enclosed, Vars, Declares, last_var, next_var}
 
 abbrev pub is_quiet : Sign → Bool
 is_quiet signs.Static = false
@@ -125,6 +125,9 @@ definition_quiet (negative_defined p q r s x n) = (refl, (refl, (refl, (refl, tt
 definition_quiet (enclosed p q r s t x n) = (refl, (refl, (refl, (refl, (refl, tt)))))
 definition_quiet (negative_enclosed p q r s t u x n) = (refl, (refl, (refl, (refl, (refl, (refl, tt))))))
 
-pub return_quiet : {ts : List Item} {c : Code} → Returns ts c → AreQuiet ts
-return_quiet no_return = tt
-return_quiet (return p q r n) = (refl, (refl, (refl, tt)))
+-- what is behind the body of a `do`
+pub redo_quiet : (q r s t : Place) {us : List Item} {e : Term} → Expresses 6 us e → AreQuiet (at q signs.While ∷ at r signs.Open ∷ (us ++ at s signs.Close ∷ at t signs.Semicolon ∷ []))
+redo_quiet q r s t {us} e = (refl, (refl, quiet_both us (at s signs.Close ∷ at t signs.Semicolon ∷ []) (expr_quiet e) (refl, (refl, tt))))
+
+pub return_quiet : (p q : Place) {ts : List Item} {e : Term} → Expresses 6 ts e → AreQuiet (at p signs.Return ∷ (ts ++ at q signs.Semicolon ∷ []))
+return_quiet p q {ts} e = (refl, quiet_both ts (at q signs.Semicolon ∷ []) (expr_quiet e) (refl, tt))

@@ -47,9 +47,9 @@ nests_balanced (last_part p q {ts} a) n us = ap (inner_from (Some n)) (append_as
 nests_balanced (next_part p m {ts} {us = vs} a b) n us = ap (inner_from (Some n)) (append_assoc ts vs us) ∙ nests_balanced a n (vs ++ us) ∙ nests_balanced b n us
 
 shape_balanced : (s : Shape) (ts : List Item) → ShapeNests s ts → IsBalanced ts
-shape_balanced Listed ts d = nests_balanced d
-shape_balanced (Stated b) ts d = nests_balanced d
-shape_balanced Chained ts d = nests_balanced d
+shape_balanced (Listed i) ts d = nests_balanced d
+shape_balanced (Stated i b) ts d = nests_balanced d
+shape_balanced (Chained i) ts d = nests_balanced d
 shape_balanced (Locals kind) ts f = nests_balanced (flat_nests ts f)
 
 -- statements, and what else a list of statements is made of

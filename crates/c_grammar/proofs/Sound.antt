@@ -6,14 +6,14 @@ use Rattle.fam_outer.specs.declared.faults.Place.{Place}
 use Rattle.c_grammar.specs.declared.items.Sign.{Sign}
 use Rattle.c_grammar.specs.declared.items.Item.{Item}
 use Rattle.c_grammar.specs.Grammar.{at, no_more, File, file_of, Forms, file}
-use Rattle.c_grammar.specs.Machine.{Outermost, ReadingState, Outside, AfterStatic, AfterExtern, AfterConst, AfterEnum, AfterVoidType, AfterType, Declaring, Bare, Starting, Negating, Started, Listing, Enumerated, AfterDefine, Defining, NegativeDefining, Enclosing, NegativeEnclosing, Enclosed, Parameters, InParameters, AfterVoid, AfterParameters, Ready, LocalConst, LocalType, NextLocal, LocalNamed, Ended, Wants, Has, Counting, Named, Opens, ForOpens, StartComes, TestComes, StepComes, VoidComes, VoidCloses, CallComes, CallOpens, CallCloses, Finishing, Returning, Returned, Closing, Over, step, finish, at_end, moved, run, start, InStatic}
+use Rattle.c_grammar.specs.Machine.{Outermost, ReadingState, Outside, AfterStatic, AfterExtern, AfterConst, AfterEnum, AfterVoidType, AfterType, Declaring, Bare, Starting, Negating, Started, Listing, Enumerated, AfterDefine, Defining, NegativeDefining, Enclosing, NegativeEnclosing, Enclosed, Parameters, InParameters, AfterVoid, AfterParameters, Ready, LocalConst, LocalType, NextLocal, LocalNamed, Ended, Wants, Has, Counting, Named, Opens, ForOpens, StartComes, TestComes, StepComes, RedoOpens, RedoComes, VoidComes, VoidCloses, CallComes, CallOpens, CallCloses, Finishing, Over, step, finish, at_end, moved, run, start, InStatic}
 use Rattle.c_grammar.proofs.Standing.{Tail, Stands}
 use Rattle.c_grammar.proofs.SoundExpressions.{want_keeps, have_keeps}
-use Rattle.c_grammar.proofs.SoundStatements.{begin_keeps, on_keeps, counting_keeps, named_keeps, opens_keeps, for_opens_keeps, start_comes_keeps, test_comes_keeps, step_comes_keeps, const_word_keeps, local_type_keeps, next_local_keeps, local_named_keeps, void_comes_keeps, void_closes_keeps, call_comes_keeps, call_opens_keeps, call_closes_keeps, finishing_keeps}
+use Rattle.c_grammar.proofs.SoundStatements.{begin_keeps, on_keeps, counting_keeps, named_keeps, opens_keeps, for_opens_keeps, start_comes_keeps, test_comes_keeps, step_comes_keeps, redo_opens_keeps, redo_comes_keeps, const_word_keeps, local_type_keeps, next_local_keeps, local_named_keeps, void_comes_keeps, void_closes_keeps, call_comes_keeps, call_opens_keeps, call_closes_keeps, finishing_keeps}
 use Rattle.c_grammar.proofs.SoundStatics.{static_part_keeps}
 use Rattle.c_grammar.proofs.SoundDefinitions.{define_keeps, defining_keeps, negative_defining_keeps, enclosing_keeps, negative_enclosing_keeps, enclosed_keeps}
 use Rattle.c_grammar.proofs.SoundFiles.{outside_keeps, static_keeps, extern_keeps, const_keeps, enum_keeps, void_type_keeps, type_keeps, declaring_keeps, bare_keeps, starting_keeps, negating_keeps, started_keeps, listing_keeps, enumerated_keeps, parameters_keeps, in_parameters_keeps, void_keeps, after_parameters_keeps}
-use Rattle.c_grammar.proofs.SoundEnds.{returning_keeps, return_end_keeps, closing_keeps, over_keeps}
+use Rattle.c_grammar.proofs.SoundEnds.{over_keeps}
 
 keeps : (state : ReadingState) (p : Place) (s : Sign) (a : List Item) → Stands state a → IfSome (step state p s) (λ next. Stands next (a ++ at p s ∷ []))
 keeps (Outside secs ds) p s a r = outside_keeps secs ds p s a r
@@ -56,15 +56,14 @@ keeps (ForOpens outer) p s a r = for_opens_keeps outer p s a r
 keeps (StartComes outer) p s a r = start_comes_keeps outer p s a r
 keeps (TestComes start outer) p s a r = test_comes_keeps start outer p s a r
 keeps (StepComes start q e outer) p s a r = step_comes_keeps start q e outer p s a r
+keeps (RedoOpens q c outer) p s a r = redo_opens_keeps q c outer p s a r
+keeps (RedoComes q c outer) p s a r = redo_comes_keeps q c outer p s a r
 keeps (VoidComes q outer) p s a r = void_comes_keeps q outer p s a r
 keeps (VoidCloses q outer) p s a r = void_closes_keeps q outer p s a r
 keeps (CallComes q outer) p s a r = call_comes_keeps q outer p s a r
 keeps (CallOpens made) p s a r = call_opens_keeps made p s a r
 keeps (CallCloses made) p s a r = call_closes_keeps made p s a r
 keeps (Finishing made) p s a r = finishing_keeps made p s a r
-keeps (Returning q ds made) p s a r = returning_keeps q ds made p s a r
-keeps (Returned ds made) p s a r = return_end_keeps ds made p s a r
-keeps (Closing ds made) p s a r = closing_keeps ds made p s a r
 keeps (Over f parts) p s a r = over_keeps f parts p s a r
 
 finishes : (state : ReadingState) (a : List Item) → Stands state a → IfOk (at_end (finish state)) (λ made. Forms a made)

@@ -2,27 +2,13 @@
 use Rattle.std.proofs.Common.{◌≡◌, ℕ, List, [], ◌∷◌, ◌++◌, refl, sym, ap, subst, ◌∙◌, append_assoc}
 use Rattle.std.specs.Prelude.{IfSome}
 use Rattle.fam_outer.specs.declared.faults.Place.{Place}
-use Rattle.c_tree.specs.declared.lists.Declared.{Declared}
-use Rattle.c_tree.specs.Tree.{Code}
 use Rattle.c_grammar.specs.declared.items.Sign.{Sign}
 use Rattle.c_grammar.specs.declared.items.Sign.TheVariants as signs
 use Rattle.c_grammar.specs.declared.items.Item.{Item}
 use Rattle.c_grammar.specs.Grammar.{at, Gaps, Empty, no_more, empty_section, empty_end, empty_else, empty_elif, File}
-use Rattle.c_grammar.specs.Machine.{Tailing, Another, Final, Returning, Returned, Closing, Over, at_semicolon, returning, closing, over}
+use Rattle.c_grammar.specs.Machine.{Tailing, Another, Final, Over, over}
 use Rattle.c_grammar.proofs.Standing.{Trailing, Stands}
 use Rattle.c_grammar.proofs.SoundFiles.{moves}
-
-pub returning_keeps : (q : Place) (ds : List Declared) (made : Code) (p : Place) (s : Sign) (a : List Item) → Stands (Returning q ds made) a → IfSome (returning q ds made s) (λ next. Stands next (a ++ at p s ∷ []))
-returning_keeps q ds made p (signs.Number n) a r = λ t u w e. moves a (at p (signs.Number n)) (at t signs.Semicolon ∷ at u signs.RightBrace ∷ w) (r n p t u w e)
-returning_keeps q ds made p _ a r = tt
-
-pub return_end_keeps : (ds : List Declared) (made : Code) (p : Place) (s : Sign) (a : List Item) → Stands (Returned ds made) a → IfSome (at_semicolon (Closing ds made) s) (λ next. Stands next (a ++ at p s ∷ []))
-return_end_keeps ds made p signs.Semicolon a r = λ u w e. moves a (at p signs.Semicolon) (at u signs.RightBrace ∷ w) (r p u w e)
-return_end_keeps ds made p _ a r = tt
-
-pub closing_keeps : (ds : List Declared) (made : Code) (p : Place) (s : Sign) (a : List Item) → Stands (Closing ds made) a → IfSome (closing ds made p s) (λ next. Stands next (a ++ at p s ∷ []))
-closing_keeps ds made p signs.RightBrace a r = λ w e. moves a (at p signs.RightBrace) w (r p w e)
-closing_keeps ds made p _ a r = tt
 
 trails : (parts : List Tailing) (t w : List Item) → ((us : List Item) → Empty Gaps us → Empty Gaps (t ++ us)) → Trailing parts w → Trailing parts (t ++ w)
 trails [] t w k r = k w r

@@ -1,19 +1,19 @@
 -- What is read is spelled: expressions.
-use Rattle.std.proofs.Common.{◌≡◌, ℕ, zero, suc, ◌≤◌, ltb, true, false, cond, List, [], ◌∷◌, ◌++◌, refl, sym, ap, subst, ◌∙◌, append_assoc, arith, inl, inr}
+use Rattle.std.proofs.Common.{◌≡◌, ℕ, zero, suc, ◌≤◌, ltb, Bool, true, false, cond, List, [], ◌∷◌, ◌++◌, refl, sym, ap, subst, ◌∙◌, append_assoc, arith, inl, inr}
 use Rattle.std.specs.Prelude.{IfSome}
 use Rattle.std.proofs.lemmas.Bool.{ltb-false, ltb-true, cases_lt}
 use Rattle.fam_outer.specs.declared.faults.Place.{Place}
 use Rattle.c_tree.specs.declared.tree.Op.TheVariants.{Add, Sub}
-use Rattle.c_tree.specs.Tree.{Term, Binary, Done, Assign, Assert}
+use Rattle.c_tree.specs.Tree.{Term, Binary, Return, Code, Done, Assign, Assert, Do, Leave}
 use Rattle.c_grammar.specs.declared.items.Sign.{Sign}
 use Rattle.c_grammar.specs.declared.items.Sign.TheVariants as signs
 use Rattle.c_grammar.specs.declared.items.Item.{Item}
-use Rattle.c_grammar.specs.Grammar.{at, Qualifier, tighter, prefix_sign, applied, Expresses, number, name, group, prefix, loose, binary, Update, update_sign, updated, Callable, of_input, of_function, assignment, input_taken, compound_assignment, Tests, test, LocalDeclarator, from_call, Stated, Writes, assert}
+use Rattle.c_grammar.specs.Grammar.{at, Qualifier, tighter, prefix_sign, applied, Expresses, number, name, group, prefix, loose, binary, Update, update_sign, updated, Callable, of_input, of_function, assignment, input_taken, compound_assignment, Tests, test, LocalDeclarator, from_call, Stated, Writes, assert, do_while, return}
 use Rattle.c_grammar.specs.Grammar as grammar
-use Rattle.c_grammar.specs.Machine.{Frame, Paren, Pre, Left, room, Stack, Site, Use, ToAssign, ToInitialise, ToUpdate, ToAssert, ToChoose, ToLoop, ToRepeat, Has, folded, settle, input_of, want, tested, closed_by, assigned, ended_by, initialised, followed_by, have}
+use Rattle.c_grammar.specs.Machine.{Frame, Paren, Pre, Left, room, Stack, Site, Use, ToAssign, ToInitialise, ToUpdate, ToAssert, ToChoose, ToLoop, ToRepeat, ToRedo, ToReturn, Has, is_in_loop, folded, settle, input_of, want, tested, closed_by, assigned, ended_by, initialised, followed_by, have}
 use Rattle.c_grammar.proofs.Standing.{while_head, InDeclaration, Read, StartsAt, Starts, Leads, Framed, Stands}
 use Rattle.c_grammar.proofs.Complete.{tighter_small}
-use Rattle.c_grammar.proofs.Pieces.{AtEnd, change_pends, change_ends, change_closes, declaration_goes_on, declaration_ends}
+use Rattle.c_grammar.proofs.Pieces.{piece, AtEnd, change_pends, change_ends, change_closes, declaration_goes_on, declaration_ends}
 
 loosen : (j k : ℕ) {ts : List Item} {e : Term} → j ≤ k → Expresses j ts e → Expresses k ts e
 loosen j zero {ts} {e} le s = let h : j ≡ 0 = omega arith in subst (λ (i : ℕ). Expresses i ts e) h s
@@ -30,6 +30,9 @@ starts_more (ToUpdate p x u site) ts us h = tt
 starts_more (ToAssert p outer) ts us h = tt
 starts_more (ToChoose p outer) ts us h = tt
 starts_more (ToLoop p outer) ts us h = tt
+starts_more (ToReturn p outer) ts us h = tt
+starts_more (ToRedo p c q outer) [] us h = absurd h
+starts_more (ToRedo p c q outer) (x ∷ ts) us h = h
 starts_more (ToRepeat start p outer) [] us h = absurd h
 starts_more (ToRepeat start p outer) (x ∷ ts) us h = h
 
@@ -99,6 +102,13 @@ test_of : (p z : Place) (ts : List Item) (e : Term) → Expresses 6 ts e → Sta
 test_of p z [] e s h = absurd h
 test_of p z (x ∷ ts) e s h = subst (λ (y : Place). Tests (x ∷ (ts ++ at z signs.Semicolon ∷ [])) y e) h (test z s)
 
+-- a `do` with its test
+redo_of : {b i : Bool} {ts : List Item} {c : Code} (p q r s t z : Place) (us : List Item) (e : Term) → Writes (Stated true b) ts c → Expresses 6 us e → StartsAt z us
+    → Writes (Stated i false) (at p signs.Do ∷ (ts ++ at q signs.While ∷ at r signs.Open ∷ (us ++ at s signs.Close ∷ at t signs.Semicolon ∷ []))) (Do p c z e Done)
+redo_of p q r s t z [] e w g h = absurd h
+redo_of {i = i} {ts = ts} {c = c} p q r s t z (x ∷ us) e w g h =
+    subst (λ (y : Place). Writes (Stated i false) (at p signs.Do ∷ (ts ++ at q signs.While ∷ at r signs.Open ∷ x ∷ (us ++ at s signs.Close ∷ at t signs.Semicolon ∷ []))) (Do p c y e Done)) h (do_while p q r s t w g)
+
 tested_keeps : (u : Use) (e : Term) (p : Place) (a : List Item) → Settled u 6 ([], e) a → IfSome (tested u e) (λ next. Stands next (a ++ at p signs.Close ∷ []))
 tested_keeps (ToAssign q x site) e p a d = change_closes site (Assign q x e Done) p a (assigns q x site e a d)
 tested_keeps (ToInitialise kind q x outer) e p a d = tt
@@ -110,7 +120,7 @@ tested_keeps (ToAssert q outer) e p a d =
       r.1,
       text,
       r.2,
-      λ s. subst (λ (y : List Item). Writes (Stated false) y (Assert q e Done)) (is s) (assert q r.0 p s d.spells),
+      λ s. subst (λ (y : List Item). Writes (Stated (is_in_loop outer) false) y (Assert q e Done)) (is s) (assert q r.0 p s d.spells),
       ap (λ (y : List Item). y ++ at p signs.Close ∷ []) (d.parts ∙ ap (λ (y : List Item). y ++ d.text) r.3) ∙ simp append_assoc,
     )
 tested_keeps (ToChoose q outer) e p a d = let r = d.is_read in (r.0, p, r.1, d.text, r.2, d.spells, ap (λ (y : List Item). y ++ at p signs.Close ∷ []) (d.parts ∙ ap (λ (y : List Item). y ++ d.text) r.3) ∙ simp append_assoc)
@@ -118,6 +128,17 @@ tested_keeps (ToLoop q outer) e p a d =
     let r = d.is_read in
     (r.1, at q signs.While ∷ at r.0 signs.Open ∷ (d.text ++ at p signs.Close ∷ []), r.2, while_head q r.0 p d.spells, ap (λ (y : List Item). y ++ at p signs.Close ∷ []) (d.parts ∙ ap (λ (y : List Item). y ++ d.text) r.3) ∙ simp append_assoc)
 tested_keeps (ToRepeat start q outer) e p a d = tt
+tested_keeps (ToRedo q c z outer) e p a d =
+    let r = d.is_read in
+    let text : List Item = at q signs.Do ∷ (r.3 ++ at r.0 signs.While ∷ at r.1 signs.Open ∷ (d.text ++ at p signs.Close ∷ [])) in
+    let is : (s : Place) → at q signs.Do ∷ (r.3 ++ at r.0 signs.While ∷ at r.1 signs.Open ∷ (d.text ++ at p signs.Close ∷ at s signs.Semicolon ∷ [])) ≡ text ++ at s signs.Semicolon ∷ [] = λ s. simp append_assoc in (
+      r.2,
+      text,
+      r.5,
+      λ s. subst (λ (y : List Item). Writes (Stated (is_in_loop outer) false) y (Do q c z e Done)) (is s) (redo_of q r.0 r.1 p s z d.text e r.6 d.spells d.leads),
+      ap (λ (y : List Item). y ++ at p signs.Close ∷ []) (d.parts ∙ ap (λ (y : List Item). y ++ d.text) r.7) ∙ simp append_assoc,
+    )
+tested_keeps (ToReturn q outer) e p a d = tt
 
 closed_keeps : (fs : List Frame) (u : Use) (e : Term) (p : Place) (a : List Item) → Settled u 6 (fs, e) a → IfSome (closed_by fs u e) (λ next. Stands next (a ++ at p signs.Close ∷ []))
 closed_keeps [] u e p a d = tested_keeps u e p a d
@@ -149,6 +170,16 @@ assigned_keeps (ToLoop q outer) e p a d = tt
 assigned_keeps (ToRepeat start q outer) e p a d =
     let r = d.is_read in
     (r.0, r.1, r.2, r.3, r.4, d.text ++ at p signs.Semicolon ∷ [], r.5, r.6, test_of q p d.text e d.spells d.leads, ap (λ (y : List Item). y ++ at p signs.Semicolon ∷ []) (d.parts ∙ ap (λ (y : List Item). y ++ d.text) r.7) ∙ simp append_assoc)
+assigned_keeps (ToRedo q c z outer) e p a d = tt
+assigned_keeps (ToReturn q outer) e p a d =
+    let r = d.is_read in
+    let text : List Item = at q signs.Return ∷ (d.text ++ at p signs.Semicolon ∷ []) in (
+      r.0,
+      text,
+      r.1,
+      piece false outer text (Leave q (Return e) Done) (return q p d.spells),
+      ap (λ (y : List Item). y ++ at p signs.Semicolon ∷ []) (d.parts ∙ ap (λ (y : List Item). y ++ d.text) r.2) ∙ simp append_assoc,
+    )
 
 ended_keeps : (fs : List Frame) (u : Use) (e : Term) (p : Place) (a : List Item) → Settled u 6 (fs, e) a → IfSome (ended_by fs u e) (λ next. Stands next (a ++ at p signs.Semicolon ∷ []))
 ended_keeps [] u e p a d = assigned_keeps u e p a d
@@ -162,6 +193,8 @@ initialised_keeps (ToAssert q outer) e p a d = tt
 initialised_keeps (ToChoose q outer) e p a d = tt
 initialised_keeps (ToLoop q outer) e p a d = tt
 initialised_keeps (ToRepeat start q outer) e p a d = tt
+initialised_keeps (ToRedo q c z outer) e p a d = tt
+initialised_keeps (ToReturn q outer) e p a d = tt
 
 followed_keeps : (fs : List Frame) (u : Use) (e : Term) (p : Place) (a : List Item) → Settled u 6 (fs, e) a → IfSome (followed_by fs u e) (λ next. Stands next (a ++ at p signs.Comma ∷ []))
 followed_keeps [] u e p a d = initialised_keeps u e p a d

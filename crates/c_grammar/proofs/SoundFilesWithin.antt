@@ -4,7 +4,7 @@ use Rattle.std.proofs.lemmas.List.{append-nil}
 use Rattle.fam_outer.specs.declared.faults.Place.{Place}
 use Rattle.c_tree.specs.declared.lists.Guard.{Guard}
 use Rattle.c_tree.specs.declared.lists.Declared.{Declared}
-use Rattle.c_tree.specs.Tree.{Code, Done, followed}
+use Rattle.c_tree.specs.Tree.{Code, Done}
 use Rattle.c_grammar.specs.declared.items.Sign.TheVariants as signs
 use Rattle.c_grammar.specs.declared.items.Item.{Item}
 use Rattle.c_grammar.specs.Grammar.{at, with_true, with_false, Part, Outer, Vars, Later, Declares, Gap, Gaps, GapRest, Empty, Body, Main, File, file_of, Forms}
@@ -12,7 +12,7 @@ use Rattle.c_grammar.specs.Grammar as plain
 use Rattle.c_grammar.specs.Machine.{Tailing, Another, Final, Top, Sections, Outermost, InPart, InLast, guards_of, Outside, Ready, Over, with_declared, start}
 use Rattle.c_grammar.specs.Deep.{tail_depth, guarded}
 use Rattle.c_grammar.specs.Within.{DeclaresIn, nothing, variables, prototype, void_prototype, definition, section, last_var, next_var, end_part, else_part, elif_part, EmptyIn, no_more, empty_section, empty_end, empty_else, empty_elif, BodyWithin, body, MainWithin, main, FormsWithin, file}
-use Rattle.c_grammar.proofs.Files.{vars_first, return_no_else}
+use Rattle.c_grammar.proofs.Files.{vars_first}
 use Rattle.c_grammar.proofs.StatesWithin.{token, opens_in, accepted_in}
 use Rattle.c_grammar.proofs.FilesWithin.{begins_then, prototyped, void_prototyped, ends_prototype, definition_then, guards_true, guards_false, goes_in, passes_in, ends_main, enters_main}
 use Rattle.c_grammar.proofs.SoundWithin.{opens_few, room_for, writes_back}
@@ -124,12 +124,12 @@ empty_back (plain.empty_elif p n {us} {vs} a b) = λ k f i parts e w g h.
     subst (λ (y : ℕ). EmptyIn y GapRest (at p (signs.GroupElif n) ∷ (us ++ vs))) (sym j.1) (empty_elif p n first second)
 
 body_back : {ts : List Item} {c : Code} {p : Place} (ds : List Declared) (g : File) → Body ts c p → guarded (Ready (Top ds Done)) 0 ts ≡ Ok g → BodyWithin ts c p
-body_back ds g (plain.body p {us} {vs} {ws} {c} {d} s r e) h =
-    let made : File = file_of ds (followed c d) p in
-    let text : List Item = vs ++ at p signs.RightBrace ∷ ws in
-    let statements = writes_back s 64 (Top ds Done) tt (omega arith) 0 text g (return_no_else p ws r) h in
-    let ends = accepted_in statements (Top ds Done) tt (omega arith) 0 text (return_no_else p ws r) ∙ ends_main p ds c ws r in
-    body p statements r (empty_back e 64 made [] (omega arith) [] g (ap (guarded (Over made []) 0) (append-nil ws) ∙ (sym ends ∙ h)))
+body_back ds g (plain.body p {us} {vs} {c} s e) h =
+    let made : File = file_of ds c p in
+    let text : List Item = at p signs.RightBrace ∷ vs in
+    let statements = writes_back s 64 (Top ds Done) tt refl (omega arith) 0 text g tt h in
+    let ends = accepted_in statements (Top ds Done) tt refl (omega arith) 0 text tt ∙ ends_main p ds c vs in
+    body p statements (empty_back e 64 made [] (omega arith) [] g (ap (guarded (Over made []) 0) (append-nil vs) ∙ (sym ends ∙ h)))
 
 main_back : {ts : List Item} {c : Code} {p : Place} (ds : List Declared) (g : File) → Main ts c p → guarded (Outside Outermost ds) 0 ts ≡ Ok g → MainWithin ts c p
 main_back ds g (plain.main q r s t u {ts} {us} {vs} y o b) h = main q r s t u y o (body_back ds g b (sym (enters_main q r s t ds vs y o) ∙ h))

@@ -1,18 +1,17 @@
 -- What is read is spelled: statements.
-use Rattle.std.proofs.Common.{◌≡◌, ℕ, false, List, [], ◌∷◌, ◌++◌, refl, sym, ap, subst, ◌∙◌, append_assoc}
+use Rattle.std.proofs.Common.{◌≡◌, ℕ, Bool, true, false, List, [], ◌∷◌, ◌++◌, refl, sym, ap, subst, ◌∙◌, append_assoc}
 use Rattle.std.specs.Prelude.{IfSome}
 use Rattle.std.proofs.lemmas.List.{append-nil}
 use Rattle.fam_outer.specs.declared.faults.Place.{Place}
-use Rattle.c_tree.specs.Tree.{Term, Code, Done, Input, If, While, Block, Skip, Cond, followed}
+use Rattle.c_tree.specs.Tree.{Term, Break, Continue, Code, Done, Input, If, While, Leave, Block, Skip, Cond, followed}
 use Rattle.c_grammar.specs.declared.items.Sign.{Sign}
 use Rattle.c_grammar.specs.declared.items.Sign.TheVariants as signs
 use Rattle.c_grammar.specs.declared.items.Item.{Item}
 use Rattle.c_grammar.specs.Ahead.{IsList}
-use Rattle.c_grammar.specs.Grammar.{at, Count, Raise, Lower, count_sign, Callable, of_input, of_function, count_behind, count_before, no_clause, no_test, int32, signed_int, int_signed, Qualifier, Unqualified, Constant, Counted, Qualified, unqualified, const_before, const_behind, LocalDeclarator, uninitialised, Listed, Chained, Writes, none, choice, ends, otherwise, elif, call, void_call, skip, block, if_else, no_return, return, body, file_of, Forms}
-use Rattle.c_grammar.specs.Machine.{Stack, Top, Braces, Yes, No, ThenOf, ElseOf, LoopOf, Site, AsStatement, AsStart, AsStep, Use, ToAssign, ToInitialise, ToUpdate, ToAssert, ToChoose, ToLoop, ToRepeat, Pending, OfStatement, OfLocal, TypeWords, OneInt, OneSigned, WholeType, ReadingState, LocalConst, LocalType, LocalNamed, Ended, Wants, Counting, Named, ForOpens, StartComes, TestComes, StepComes, VoidComes, VoidCloses, CallComes, CallOpens, CallCloses, Finishing, folded, else_of, linked, opened, braced, returned, next_part, last_part, group_end, in_list, begin, on, named, counting, changing, start_comes, test_comes, step_comes, local_end, const_word, next_local, behind_local_type, local_type, without_initialiser, local_named, at_open, at_close, finishing, at_void, at_function, InStatic, BehindStatic}
-use Rattle.c_grammar.proofs.Standing.{Begun, for_head, Read, AtSite, InDeclaration, UsedAt, Pends, Piece, one_int, one_signed, whole_type, LocalWords, variable_words, constant_words, Stands}
-use Rattle.c_grammar.proofs.Complete.{followed-none}
-use Rattle.c_grammar.proofs.Pieces.{piece, listed, loops, fold_is, change_pends, change_ends, change_closes, declaration_begins, declaration_goes_on, declaration_ends}
+use Rattle.c_grammar.specs.Grammar.{at, Count, Raise, Lower, count_sign, Callable, of_input, of_function, count_behind, count_before, no_clause, no_test, int32, signed_int, int_signed, Qualifier, Unqualified, Constant, Counted, Qualified, unqualified, const_before, const_behind, LocalDeclarator, uninitialised, Listed, Stated, Chained, Writes, none, choice, ends, otherwise, elif, call, void_call, skip, block, if_else, break, continue, body, file_of, Forms}
+use Rattle.c_grammar.specs.Machine.{Stack, Top, Braces, Yes, No, ThenOf, ElseOf, LoopOf, DoOf, Onward, InList, AtTest, Site, AsStatement, AsStart, AsStep, Use, ToAssign, ToInitialise, ToUpdate, ToAssert, ToChoose, ToLoop, ToRepeat, ToRedo, ToReturn, Pending, OfStatement, OfLocal, TypeWords, OneInt, OneSigned, WholeType, ReadingState, LocalConst, LocalType, LocalNamed, Ended, Wants, Counting, Named, ForOpens, StartComes, TestComes, StepComes, RedoOpens, RedoComes, VoidComes, VoidCloses, CallComes, CallOpens, CallCloses, Finishing, is_in_loop, folded, placed, else_of, linked, opened, braced, leaving, next_part, last_part, group_end, in_list, begin, proceed, on, named, counting, changing, start_comes, test_comes, step_comes, redo_comes, local_end, const_word, next_local, behind_local_type, local_type, without_initialiser, local_named, at_open, at_close, finishing, at_void, at_function, InStatic, BehindStatic}
+use Rattle.c_grammar.proofs.Standing.{Begun, for_head, Read, AtSite, InDeclaration, UsedAt, Pends, Piece, StandsOn, one_int, one_signed, whole_type, LocalWords, variable_words, constant_words, Stands}
+use Rattle.c_grammar.proofs.Pieces.{piece, listed, loops, place_is, change_pends, change_ends, change_closes, declaration_begins, declaration_goes_on, declaration_ends}
 use Rattle.c_grammar.proofs.SoundExpressions.{want_keeps}
 use Rattle.c_grammar.proofs.SoundFiles.{words_typed}
 
@@ -32,16 +31,17 @@ else_is (LoopOf start p e advance outer) c z b ts r s =
     let made : Code = followed start (While p e advance c Done) in
     let is : b ++ (ts ++ at z signs.Else ∷ []) ≡ r.0 ++ (text ++ at z signs.Else ∷ []) = ap (λ (y : List Item). y ++ (ts ++ at z signs.Else ∷ [])) r.4 ∙ simp append_assoc in
     subst (λ (y : List Item). IfSome (else_of outer made) (λ next. Stands next y)) (sym is) (else_is outer made z r.0 text r.2 (piece false outer text made (loops r.3 s)))
+else_is (DoOf p outer) c z b ts r s = tt
 
 -- a group ends: its earlier parts are put around the last
-chained : (links : List (ℕ × Code)) (n : ℕ) (us ts : List Item) (first last : Code) → Begun links n us → Writes Listed ts first → (vs : List Item) → Writes Chained vs last → Writes Listed (us ++ (ts ++ vs)) (linked links (Cond n first last Done))
-chained [] n us ts first last g s vs t =
-    let h : Writes Listed (at g.0 (signs.GroupIf n) ∷ (ts ++ (vs ++ []))) (Cond n first last Done) = choice g.0 n s t none in
-    subst (λ (y : List Item). Writes Listed (y ++ (ts ++ vs)) (Cond n first last Done)) (sym g.1) (subst (λ (y : List Item). Writes Listed (at g.0 (signs.GroupIf n) ∷ (ts ++ y)) (Cond n first last Done)) (append-nil vs) h)
-chained (l ∷ links) n us ts first last g s vs t =
+chained : {i : Bool} (links : List (ℕ × Code)) (n : ℕ) (us ts : List Item) (first last : Code) → Begun i links n us → Writes (Listed i) ts first → (vs : List Item) → Writes (Chained i) vs last → Writes (Listed i) (us ++ (ts ++ vs)) (linked links (Cond n first last Done))
+chained {i} [] n us ts first last g s vs t =
+    let h : Writes (Listed i) (at g.0 (signs.GroupIf n) ∷ (ts ++ (vs ++ []))) (Cond n first last Done) = choice g.0 n s t none in
+    subst (λ (y : List Item). Writes (Listed i) (y ++ (ts ++ vs)) (Cond n first last Done)) (sym g.1) (subst (λ (y : List Item). Writes (Listed i) (at g.0 (signs.GroupIf n) ∷ (ts ++ y)) (Cond n first last Done)) (append-nil vs) h)
+chained {i} (l ∷ links) n us ts first last g s vs t =
     let text : List Item = at g.0 (signs.GroupElif n) ∷ (ts ++ vs) in
     let is : us ++ (ts ++ vs) ≡ g.1 ++ (g.2 ++ text) = ap (λ (y : List Item). y ++ (ts ++ vs)) g.5 ∙ simp append_assoc in
-    subst (λ (y : List Item). Writes Listed y (linked (l ∷ links) (Cond n first last Done))) (sym is) (chained links l.0 g.1 g.2 l.1 (Cond n first last Done) g.3 g.4 text (elif g.0 n s t))
+    subst (λ (y : List Item). Writes (Listed i) y (linked (l ∷ links) (Cond n first last Done))) (sym is) (chained links l.0 g.1 g.2 l.1 (Cond n first last Done) g.3 g.4 text (elif g.0 n s t))
 
 -- ---- one item
 
@@ -53,6 +53,7 @@ opened_keeps n (No links m first made outer) p a r = (a, at p (signs.GroupIf n) 
 opened_keeps n (ThenOf q e outer) p a r = tt
 opened_keeps n (ElseOf q e first outer) p a r = tt
 opened_keeps n (LoopOf start q e advance outer) p a r = tt
+opened_keeps n (DoOf q outer) p a r = tt
 
 braced_keeps : (outer : Stack) (p : Place) (a : List Item) → Read outer a → IfSome (braced outer p) (λ next. Stands next (a ++ at p signs.RightBrace ∷ []))
 braced_keeps (Braces q made outer) p a r = (
@@ -65,17 +66,13 @@ braced_keeps (Braces q made outer) p a r = (
 braced_keeps (Top ds made) p a r = λ w e.
     let re : r.0 ++ (r.1 ++ at p signs.RightBrace ∷ w) ≡ ((r.0 ++ r.1) ++ at p signs.RightBrace ∷ []) ++ w = simp append_assoc in
     let is : r.0 ++ (r.1 ++ at p signs.RightBrace ∷ w) ≡ (a ++ at p signs.RightBrace ∷ []) ++ w = re ∙ ap (λ (y : List Item). (y ++ at p signs.RightBrace ∷ []) ++ w) (sym r.4) in
-    subst (λ (y : List Item). Forms y (file_of ds made p)) is
-    (subst (λ (y : Code). Forms (r.0 ++ (r.1 ++ at p signs.RightBrace ∷ w)) (file_of ds y p)) (followed-none made) (r.2 (r.1 ++ at p signs.RightBrace ∷ w) (followed made Done) p (body p r.3 no_return e)))
+    subst (λ (y : List Item). Forms y (file_of ds made p)) is (r.2 (r.1 ++ at p signs.RightBrace ∷ w) made p (body p r.3 e))
 braced_keeps _ p a r = tt
 
-returned_keeps : (outer : Stack) (p : Place) (a : List Item) → Read outer a → IfSome (returned outer p) (λ next. Stands next (a ++ at p signs.Return ∷ []))
-returned_keeps (Top ds made) p a r = λ n s q t w e.
-    let rest : List Item = at s (signs.Number n) ∷ at q signs.Semicolon ∷ at t signs.RightBrace ∷ w in
-    let re : r.0 ++ (r.1 ++ at p signs.Return ∷ rest) ≡ ((r.0 ++ r.1) ++ at p signs.Return ∷ []) ++ rest = simp append_assoc in
-    let is : r.0 ++ (r.1 ++ at p signs.Return ∷ rest) ≡ (a ++ at p signs.Return ∷ []) ++ rest = re ∙ ap (λ (y : List Item). (y ++ at p signs.Return ∷ []) ++ rest) (sym r.4) in
-    subst (λ (y : List Item). Forms y (file_of ds (followed made (Skip p Done)) t)) is (r.2 (r.1 ++ at p signs.Return ∷ rest) (followed made (Skip p Done)) t (body t r.3 (return p s q n) e))
-returned_keeps _ p a r = tt
+-- `break` or `continue`
+leaving_keeps : (i : Bool) (outer : Stack) (s : Sign) (c : Code) (p : Place) (a : List Item) → is_in_loop outer ≡ i → ((q : Place) → Writes (Stated true false) (at p s ∷ at q signs.Semicolon ∷ []) c) → Read outer a → IfSome (leaving i outer c) (λ next. Stands next (a ++ at p s ∷ []))
+leaving_keeps true outer s c p a e w r = (a, at p s ∷ [], r, (λ q. subst (λ (b : Bool). Writes (Stated b false) (at p s ∷ at q signs.Semicolon ∷ []) c) (sym e) (w q)), refl)
+leaving_keeps false outer s c p a e w r = tt
 
 next_keeps : (m : ℕ) (outer : Stack) (p : Place) (a : List Item) → Read outer a → IfSome (next_part m outer) (λ next. Stands next (a ++ at p (signs.GroupElif m) ∷ []))
 next_keeps m (Yes links n made outer) p a r =
@@ -113,6 +110,7 @@ in_list_keeps (No links n first made outer) next a h = h tt
 in_list_keeps (ThenOf q e outer) next a h = tt
 in_list_keeps (ElseOf q e first outer) next a h = tt
 in_list_keeps (LoopOf start q e advance outer) next a h = tt
+in_list_keeps (DoOf q outer) next a h = tt
 
 pub begin_keeps : (outer : Stack) (p : Place) (s : Sign) (a : List Item) → Read outer a → IfSome (begin outer p s) (λ next. Stands next (a ++ at p s ∷ []))
 begin_keeps outer p (signs.Name x) a r = (a, r, refl)
@@ -130,7 +128,10 @@ begin_keeps outer p signs.MinusMinus a r = (a, r, refl)
 begin_keeps outer p signs.LeftBrace a r = (a, [], r, none, refl)
 begin_keeps outer p signs.RightBrace a r = braced_keeps outer p a r
 begin_keeps outer p signs.Assert a r = (a, r, refl)
-begin_keeps outer p signs.Return a r = returned_keeps outer p a r
+begin_keeps outer p signs.Do a r = (a, r, refl)
+begin_keeps outer p signs.Break a r = leaving_keeps (is_in_loop outer) outer signs.Break (Leave p Break Done) p a refl (λ q. break p q) r
+begin_keeps outer p signs.Continue a r = leaving_keeps (is_in_loop outer) outer signs.Continue (Leave p Continue Done) p a refl (λ q. continue p q) r
+begin_keeps outer p signs.Return a r = ((a, r, refl), λ z t. tt)
 begin_keeps outer p signs.If a r = (a, r, refl)
 begin_keeps outer p signs.While a r = (a, r, refl)
 begin_keeps outer p signs.For a r = (p, a, r, refl)
@@ -140,11 +141,17 @@ begin_keeps outer p signs.GroupElse a r = last_keeps outer p a r
 begin_keeps outer p signs.GroupEnd a r = end_keeps outer p a r
 begin_keeps outer p _ a r = tt
 
+-- behind a statement, where no `else` comes
+proceed_keeps : (o : Onward) (p : Place) (s : Sign) (a : List Item) → StandsOn o a → IfSome (proceed o p s) (λ next. Stands next (a ++ at p s ∷ []))
+proceed_keeps (InList outer) p s a r = begin_keeps outer p s a r
+proceed_keeps (AtTest q c outer) p signs.While a r = (p, r.0, r.1, r.2, r.3, r.4, ap (λ (y : List Item). y ++ at p signs.While ∷ []) r.5 ∙ append_assoc r.0 (at q signs.Do ∷ r.1) (at p signs.While ∷ []))
+proceed_keeps (AtTest q c outer) p _ a r = tt
+
 pub on_keeps : (outer : Stack) (c : Code) (p : Place) (s : Sign) (a : List Item) → Stands (Ended outer c) a → IfSome (on outer c p s) (λ next. Stands next (a ++ at p s ∷ []))
 on_keeps outer c p signs.Else a r =
     let is : a ++ at p signs.Else ∷ [] ≡ r.0 ++ (r.1 ++ at p signs.Else ∷ []) = ap (λ (y : List Item). y ++ at p signs.Else ∷ []) r.4 ∙ append_assoc r.0 r.1 (at p signs.Else ∷ []) in
     subst (λ (y : List Item). IfSome (else_of outer c) (λ next. Stands next y)) (sym is) (else_is outer c p r.0 r.1 r.2 r.3)
-on_keeps outer c p s a r = begin_keeps (folded outer c) p s a (subst (Read (folded outer c)) (sym r.4) (fold_is false outer c r.0 r.1 r.2 r.3))
+on_keeps outer c p s a r = proceed_keeps (placed outer c) p s a (subst (StandsOn (placed outer c)) (sym r.4) (place_is false outer c r.0 r.1 r.2 r.3))
 
 pub named_keeps : (q : Place) (x : ℕ) (site : Site) (p : Place) (s : Sign) (a : List Item) → Stands (Named q x site) a → IfSome (named q x site s) (λ next. Stands next (a ++ at p s ∷ []))
 named_keeps q x site p signs.Equals a r = ((p, r.0, r.1, ap (λ (y : List Item). y ++ at p signs.Equals ∷ []) r.2 ∙ append_assoc r.0 (at q (signs.Name x) ∷ []) (at p signs.Equals ∷ [])), λ z t. tt)
@@ -169,6 +176,8 @@ opens_use (ToAssert q outer) p a r = ((p, r.0, r.1, ap (λ (y : List Item). y ++
 opens_use (ToChoose q outer) p a r = ((p, r.0, r.1, ap (λ (y : List Item). y ++ at p signs.Open ∷ []) r.2 ∙ append_assoc r.0 (at q signs.If ∷ []) (at p signs.Open ∷ [])), λ z t. tt)
 opens_use (ToLoop q outer) p a r = ((p, r.0, r.1, ap (λ (y : List Item). y ++ at p signs.Open ∷ []) r.2 ∙ append_assoc r.0 (at q signs.While ∷ []) (at p signs.Open ∷ [])), λ z t. tt)
 opens_use (ToRepeat start q outer) p a r = absurd r
+opens_use (ToRedo q c z outer) p a r = absurd r
+opens_use (ToReturn q outer) p a r = absurd r
 
 pub opens_keeps : (u : Use) (p : Place) (s : Sign) (a : List Item) → UsedAt u a → IfSome (at_open (Wants [] u) s) (λ next. Stands next (a ++ at p s ∷ []))
 opens_keeps u p signs.Open a r = opens_use u p a r
@@ -203,6 +212,15 @@ step_comes_keeps start q e outer p signs.Close a r = (
   ap (λ (y : List Item). y ++ at p signs.Close ∷ []) r.9 ∙ simp append_assoc,
 )
 step_comes_keeps start q e outer p s a r = changing_keeps (AsStep start q e outer) p s a r
+
+-- ---- the test of a `do`
+
+pub redo_opens_keeps : (q : Place) (c : Code) (outer : Stack) (p : Place) (s : Sign) (a : List Item) → Stands (RedoOpens q c outer) a → IfSome (at_open (RedoComes q c outer) s) (λ next. Stands next (a ++ at p s ∷ []))
+redo_opens_keeps q c outer p signs.Open a r = (r.0, p, r.1, r.2, r.3, r.4, r.5, ap (λ (y : List Item). y ++ at p signs.Open ∷ []) r.6 ∙ simp append_assoc)
+redo_opens_keeps q c outer p _ a r = tt
+
+pub redo_comes_keeps : (q : Place) (c : Code) (outer : Stack) (p : Place) (s : Sign) (a : List Item) → Stands (RedoComes q c outer) a → IfSome (redo_comes q c outer p s) (λ next. Stands next (a ++ at p s ∷ []))
+redo_comes_keeps q c outer p s a r = want_keeps [] (ToRedo q c p outer) p s a r refl
 
 -- ---- declarations in `main`
 

@@ -1,5 +1,5 @@
 -- Static declarations in `main`: what the items that were read so far were is kept by one more.
-use Rattle.std.proofs.Common.{◌≡◌, ℕ, ℤ, pos, false, List, [], ◌∷◌, ◌++◌, refl, sym, ap, subst, ◌∙◌, append_assoc}
+use Rattle.std.proofs.Common.{◌≡◌, ℕ, ℤ, pos, List, [], ◌∷◌, ◌++◌, refl, sym, ap, subst, ◌∙◌, append_assoc}
 use Rattle.std.specs.Prelude.{IfSome, neg_ℤ}
 use Rattle.std.proofs.lemmas.List.{append-nil}
 use Rattle.fam_outer.specs.declared.faults.Place.{Place}
@@ -10,10 +10,10 @@ use Rattle.c_grammar.specs.declared.items.Sign.TheVariants as signs
 use Rattle.c_grammar.specs.declared.items.Item.{Item}
 use Rattle.c_grammar.specs.Ahead.{IsList, IsHeld}
 use Rattle.c_grammar.specs.Grammar.{at, int32, Qualifier, Unqualified, Constant, Counted, behind, Qualified, Declarator, bare, positive, negative, Ending, variables_end, constants_end, declared, Vars, Declares, last_var, next_var, Listed, Writes, none, static_local}
-use Rattle.c_grammar.specs.Machine.{Stack, StaticPart, BehindStatic, BehindStaticConst, BehindStaticType, BeforeStaticName, BehindStaticName, BehindStaticEquals, BehindStaticMinus, BehindStaticNumber, TypeWords, OneInt, OneSigned, WholeType, folded, static_word, behind_static_word, static_name, behind_static_type, static_type, static_end, static_bare, static_named, static_value, static_negative, static_step}
+use Rattle.c_grammar.specs.Machine.{Stack, StaticPart, BehindStatic, BehindStaticConst, BehindStaticType, BeforeStaticName, BehindStaticName, BehindStaticEquals, BehindStaticMinus, BehindStaticNumber, TypeWords, OneInt, OneSigned, WholeType, is_in_loop, folded, static_word, behind_static_word, static_name, behind_static_type, static_type, static_end, static_bare, static_named, static_value, static_negative, static_step}
 use Rattle.c_grammar.proofs.Standing.{Read, InStaticDeclaration, StandsStatic, Words, one_int, one_signed, whole_type, variable_words, constant_words, Stands}
 use Rattle.c_grammar.proofs.Complete.{folded-none, qualified_held}
-use Rattle.c_grammar.proofs.Pieces.{listed, fold_is}
+use Rattle.c_grammar.proofs.Pieces.{fold_is}
 use Rattle.c_grammar.proofs.SoundStatements.{words_qualified, then_const, then_signed, then_int}
 
 -- ---- declarators
@@ -26,7 +26,7 @@ static_begins {kind} outer p b us r is q = record {
   is_read = r;
   is_list = is;
   is_held = qualified_held q;
-  goes_on = λ ts ds v. subst (λ (y : List Item). Writes Listed (at p signs.Static ∷ (us ++ y)) Done) (append-nil ts) (static_local p q v none);
+  goes_on = λ ts ds v. subst (λ (y : List Item). Writes (Listed (is_in_loop outer)) (at p signs.Static ∷ (us ++ y)) Done) (append-nil ts) (static_local p q v none);
   parts = refl;
 }
 
@@ -45,7 +45,7 @@ static_goes_on {kind} {outer} {b} {ts} {x} {n} p d h =
       is_read = d.is_read;
       is_list = d.is_list;
       is_held = d.is_held;
-      goes_on = λ us ds v. subst (λ (y : List Item). Writes Listed y Done) (is us)
+      goes_on = λ us ds v. subst (λ (y : List Item). Writes (Listed (is_in_loop outer)) y Done) (is us)
           (d.goes_on (ts ++ at p signs.Comma ∷ us) (declared x n [] ∷ ds) (next_var p [] h (subst (λ (k : Qualifier). Declares (Vars k []) us ds) (sym (still_held kind n d.is_held)) v)));
       parts = ap (λ (y : List Item). y ++ (ts ++ at p signs.Comma ∷ [])) d.parts ∙ append_assoc d.start d.text (ts ++ at p signs.Comma ∷ []);
     }
@@ -60,8 +60,8 @@ static_ends : {kind : Qualifier} {outer : Stack} {b ts : List Item} {x : ℕ} {n
 static_ends {kind} {outer} {b} {ts} {x} {n} p d h =
     let end : List Item = ts ++ at p signs.Semicolon ∷ [] in
     let text : List Item = d.text ++ end in
-    let written : Writes Listed text Done = d.goes_on end (declared x n [] ∷ []) (last_var [] h (static_ending kind p d.is_held)) in
-    let r : Read (folded outer Done) (d.start ++ text) = fold_is false outer Done d.start text d.is_read (listed outer text Done d.is_list written) in
+    let written : Writes (Listed (is_in_loop outer)) text Done = d.goes_on end (declared x n [] ∷ []) (last_var [] h (static_ending kind p d.is_held)) in
+    let r : Read (folded outer Done) (d.start ++ text) = fold_is outer Done d.start text d.is_list d.is_read written in
     let is : b ++ end ≡ d.start ++ text = ap (λ (y : List Item). y ++ end) d.parts ∙ append_assoc d.start d.text end in
     subst (λ (y : Stack). Read y (b ++ end)) (folded-none outer d.is_list) (subst (Read (folded outer Done)) (sym is) r)
 

@@ -4,18 +4,18 @@ use Rattle.std.proofs.Common.{◌≡◌, ℕ, zero, suc, ◌+◌, ◌≤◌, Boo
 use Rattle.std.specs.Prelude.{nat_le}
 use Rattle.std.proofs.lemmas.Bool.{leb-false, or_parts}
 use Rattle.fam_outer.specs.declared.faults.Place.{Place}
-use Rattle.c_tree.specs.Tree.{Term, Code, Done, If, While, Block, Cond, followed}
+use Rattle.c_tree.specs.Tree.{Term, Code, Done, If, While, Do, Block, Cond, followed}
 use Rattle.c_grammar.specs.declared.items.Sign.TheVariants as signs
 use Rattle.c_grammar.specs.declared.items.Item.{Item}
 use Rattle.c_grammar.specs.Ahead.{IsLooser, Loose, IsList, NoElse}
 use Rattle.c_grammar.specs.Grammar.{at, tighter, Prefix, Positive, Negative, Inverse, prefix_sign, Expresses, number, name, group, prefix, loose, binary, update_sign, Changes, Clause, Tests, Qualifier, LocalDeclarator, Shape, Listed, Stated, Chained, Locals, Writes, File}
 use Rattle.c_grammar.specs.Grammar as plain
-use Rattle.c_grammar.specs.Machine.{Frame, Paren, Pre, Left, room, Stack, Braces, Yes, No, ThenOf, ElseOf, LoopOf, Site, AsStatement, AsStart, AsStep, Use, ToAssign, ToInitialise, ToUpdate, ToAssert, ToChoose, ToLoop, ToRepeat, ReadingState, Ready, NextLocal, Ended, Wants, Has, Named, Opens, StartComes, TestComes, StepComes, folded, step}
+use Rattle.c_grammar.specs.Machine.{Frame, Paren, Pre, Left, room, Stack, Braces, Yes, No, ThenOf, ElseOf, LoopOf, DoOf, Site, AsStatement, AsStart, AsStep, Use, ToAssign, ToInitialise, ToUpdate, ToAssert, ToChoose, ToLoop, ToRepeat, ToRedo, ToReturn, ReadingState, Ready, NextLocal, Ended, Wants, Has, Named, Opens, StartComes, TestComes, StepComes, is_in_loop, folded, step}
 use Rattle.c_grammar.specs.Deep.{depth, opens_more, around, counted, is_deep, is_nested, is_long, Fault, went, guarded}
-use Rattle.c_grammar.specs.Within.{operators_in, more_by, Full, ChangesWithin, assignment, input_taken, compound_assignment, count_behind, count_before, ClauseWithin, no_clause, clause, TestsWithin, no_test, test, LocalWithin, uninitialised, initialised, from_call, WritesIn, none, more, choice, local, static_local, last_local, next_local, ends, otherwise, elif, change, call, void_call, assert, skip, block, while, for, if_then, if_else}
-use Rattle.c_grammar.proofs.Complete.{comes, expr_no_semicolon, Free, free_of, no_else, chain_no_else, locals_named, looser, settled, folded-list}
+use Rattle.c_grammar.specs.Within.{operators_in, more_by, Full, ChangesWithin, assignment, input_taken, compound_assignment, count_behind, count_before, ClauseWithin, no_clause, clause, TestsWithin, no_test, test, LocalWithin, uninitialised, initialised, from_call, WritesIn, none, more, choice, local, static_local, last_local, next_local, ends, otherwise, elif, change, call, void_call, assert, skip, block, while, for, if_then, if_else, do_while, break, continue, return}
+use Rattle.c_grammar.proofs.Complete.{comes, expr_no_semicolon, Free, free_of, no_else, chain_no_else, locals_named, looser, settled, folded-list, folded-inside}
 use Rattle.c_grammar.proofs.CompleteWithin.{takes, prefix_takes, prefix_more, operators_both, expresses_within}
-use Rattle.c_grammar.proofs.StatesWithin.{token, opens_in, group_in, folds_in, depth_folded, full_in, last_token, updates_in, named_in, last_sign, start_in, step_in, tests_begin, tests_in, head_in, for_in, qualified_in, initialiser_in, next_in, accepted_in, static_in}
+use Rattle.c_grammar.proofs.StatesWithin.{token, opens_in, group_in, folds_in, depth_folded, full_in, last_token, updates_in, named_in, last_sign, start_in, step_in, tests_begin, tests_in, head_in, for_in, body_in, redo_begins, return_in, qualified_in, initialiser_in, next_in, accepted_in, static_in}
 
 -- ---- an item that is read
 
@@ -134,10 +134,10 @@ room_for zero d e h = let bad : ⊥ = omega (arith, e, h) in absurd bad
 room_for (suc j) d e h = (j, refl)
 
 abbrev pub GoalBack : Shape → List Item → Code → Type 0
-GoalBack Listed ts c = (k : ℕ) (outer : Stack) → IsList outer → k + depth outer ≡ 64 → (n : ℕ) (w : List Item) (f : File) → NoElse w → guarded (Ready outer) n (ts ++ w) ≡ Ok f → WritesIn k Listed ts c
-GoalBack (Stated b) ts c = (k : ℕ) (outer : Stack) → k + depth outer ≡ 64 → (n : ℕ) (w : List Item) (f : File) → Free b w → guarded (Ready outer) n (ts ++ w) ≡ Ok f → WritesIn k (Stated b) ts c
+GoalBack (Listed i) ts c = (k : ℕ) (outer : Stack) → IsList outer → is_in_loop outer ≡ i → k + depth outer ≡ 64 → (n : ℕ) (w : List Item) (f : File) → NoElse w → guarded (Ready outer) n (ts ++ w) ≡ Ok f → WritesIn k (Listed i) ts c
+GoalBack (Stated i b) ts c = (k : ℕ) (outer : Stack) → is_in_loop outer ≡ i → k + depth outer ≡ 64 → (n : ℕ) (w : List Item) (f : File) → Free b w → guarded (Ready outer) n (ts ++ w) ≡ Ok f → WritesIn k (Stated i b) ts c
 GoalBack (Locals kind) ts c = (k : ℕ) (outer : Stack) → IsList outer → (w : List Item) (f : File) → guarded (NextLocal kind outer) 0 (ts ++ w) ≡ Ok f → WritesIn k (Locals kind) ts c
-GoalBack Chained ts d = (k : ℕ) (links : List (ℕ × Code)) (n : ℕ) (c : Code) (outer : Stack) → k + (suc (length links) + depth outer) ≡ 64 → (m : ℕ) (w : List Item) (f : File) → guarded (Ready (Yes links n c outer)) m (ts ++ w) ≡ Ok f → WritesIn k Chained ts d
+GoalBack (Chained i) ts d = (k : ℕ) (links : List (ℕ × Code)) (n : ℕ) (c : Code) (outer : Stack) → is_in_loop outer ≡ i → k + (suc (length links) + depth outer) ≡ 64 → (m : ℕ) (w : List Item) (f : File) → guarded (Ready (Yes links n c outer)) m (ts ++ w) ≡ Ok f → WritesIn k (Chained i) ts d
 
 -- a declarator in `main` and what ends it
 local_back : {kind : Qualifier} {ts : List Item} {c : Code} → LocalDeclarator kind ts c → (outer : Stack) (y : Item) (us w : List Item) (f : File) → IsLooser 6 y.sign → guarded (NextLocal kind outer) 0 ((ts ++ y ∷ us) ++ w) ≡ Ok f → LocalWithin kind ts c
@@ -146,14 +146,14 @@ local_back (plain.initialised p q x {kind} {ts} s) outer y us w f l h = initiali
 local_back (plain.from_call p q r s t x g) outer y us w f l h = from_call p q r s t x g
 
 pub writes_back : {s : Shape} {ts : List Item} {c : Code} → Writes s ts c → GoalBack s ts c
-writes_back plain.none = λ k outer is e m w f fr h. none
-writes_back (plain.more {b} {ts} {us} {c} {d} s l) = λ k outer is e m w f fr h.
+writes_back plain.none = λ k outer is inside e m w f fr h. none
+writes_back (plain.more {b} {ts} {us} {c} {d} s l) = λ k outer is inside e m w f fr h.
     let n = no_else l w fr in
     let h1 = sym (ap (guarded (Ready outer) m) (append_assoc ts us w)) ∙ h in
-    let first = writes_back s k outer e m (us ++ w) f (free_of b (us ++ w) n) h1 in
-    let h2 = sym (accepted_in first outer (omega (arith, e)) m (us ++ w) (free_of b (us ++ w) n) ∙ folds_in outer c 0 (us ++ w) n) ∙ h1 in
-    more first (writes_back l k (folded outer c) (folded-list outer c is) (omega (arith, e, depth_folded outer c is)) 0 w f fr h2)
-writes_back (plain.choice p n {ts} {us} {vs} {c} {d} {e = g} s t l) = λ k outer is e m w f fr h.
+    let first = writes_back s k outer inside e m (us ++ w) f (free_of b (us ++ w) n) h1 in
+    let h2 = sym (accepted_in first outer inside (omega (arith, e)) m (us ++ w) (free_of b (us ++ w) n) ∙ folds_in outer c 0 (us ++ w) is n) ∙ h1 in
+    more first (writes_back l k (folded outer c) (folded-list outer c is) (folded-inside outer c ∙ inside) (omega (arith, e, depth_folded outer c is)) 0 w f fr h2)
+writes_back (plain.choice p n {ts} {us} {vs} {c} {d} {e = g} {i} s t l) = λ k outer is inside e m w f fr h.
     let r = no_else l w fr in
     let le : suc (depth outer) ≤ 64 = opens_few (Ready outer) m (at p (signs.GroupIf n)) ((ts ++ (us ++ vs)) ++ w) f refl h in
     let j = room_for k (depth outer) e le in
@@ -164,32 +164,32 @@ writes_back (plain.choice p n {ts} {us} {vs} {c} {d} {e = g} s t l) = λ k outer
     ap (λ (x : List Item). guarded (Ready outer) m (at p (signs.GroupIf n) ∷ x)) (append_assoc ts (us ++ vs) w ∙ ap (λ (x : List Item). ts ++ x) (append_assoc us vs w))
     ∙ group_in p n outer m (ts ++ (us ++ (vs ++ w))) is le in
     let h1 = sym begins ∙ h in
-    let first = writes_back s j.0 (Yes [] n Done outer) tt one 0 (us ++ (vs ++ w)) f (no_else t (vs ++ w) r) h1 in
-    let h2 = sym (accepted_in first (Yes [] n Done outer) tt within 0 (us ++ (vs ++ w)) (no_else t (vs ++ w) r)) ∙ h1 in
-    let second = writes_back t j.0 [] n c outer one 0 (vs ++ w) f h2 in
-    let h3 = sym (accepted_in second [] n c outer within 0 (vs ++ w) ∙ folds_in outer made 0 (vs ++ w) r) ∙ h2 in
-    let third = writes_back l k (folded outer made) (folded-list outer made is) (omega (arith, e, depth_folded outer made is)) 0 w f fr h3 in
-    subst (λ (y : ℕ). WritesIn y Listed (at p (signs.GroupIf n) ∷ (ts ++ (us ++ vs))) (Cond n c d g)) (sym j.1) (choice p n first second (subst (λ (y : ℕ). WritesIn y Listed vs g) j.1 third))
-writes_back (plain.local {ts} {us} {vs} {c} {d} g s l) = λ k outer is e m w f fr h.
+    let first = writes_back s j.0 (Yes [] n Done outer) tt inside one 0 (us ++ (vs ++ w)) f (no_else t (vs ++ w) r) h1 in
+    let h2 = sym (accepted_in first (Yes [] n Done outer) tt inside within 0 (us ++ (vs ++ w)) (no_else t (vs ++ w) r)) ∙ h1 in
+    let second = writes_back t j.0 [] n c outer inside one 0 (vs ++ w) f h2 in
+    let h3 = sym (accepted_in second [] n c outer inside within 0 (vs ++ w) ∙ folds_in outer made 0 (vs ++ w) is r) ∙ h2 in
+    let third = writes_back l k (folded outer made) (folded-list outer made is) (folded-inside outer made ∙ inside) (omega (arith, e, depth_folded outer made is)) 0 w f fr h3 in
+    subst (λ (y : ℕ). WritesIn y (Listed i) (at p (signs.GroupIf n) ∷ (ts ++ (us ++ vs))) (Cond n c d g)) (sym j.1) (choice p n first second (subst (λ (y : ℕ). WritesIn y (Listed i) vs g) j.1 third))
+writes_back (plain.local {ts} {us} {vs} {c} {d} g s l) = λ k outer is inside e m w f fr h.
     let begins =
     ap (guarded (Ready outer) m) (append_assoc ts (us ++ vs) w ∙ ap (λ (x : List Item). ts ++ x) (append_assoc us vs w))
     ∙ qualified_in g outer is m (us ++ (vs ++ w)) (locals_named s (vs ++ w)) in
     let h1 = sym begins ∙ h in
     let first = writes_back s k outer is (vs ++ w) f h1 in
     let h2 = sym (accepted_in first outer is (vs ++ w)) ∙ h1 in
-    local g first (writes_back l k (folded outer c) (folded-list outer c is) (omega (arith, e, depth_folded outer c is)) 0 w f fr h2)
-writes_back (plain.static_local p {vs = vs} q v l) = λ k outer is e m w f fr h. static_local p q v (writes_back l k outer is e 0 w f fr (sym (static_in p q v outer is m vs w) ∙ h))
+    local g first (writes_back l k (folded outer c) (folded-list outer c is) (folded-inside outer c ∙ inside) (omega (arith, e, depth_folded outer c is)) 0 w f fr h2)
+writes_back (plain.static_local p {vs = vs} q v l) = λ k outer is inside e m w f fr h. static_local p q v (writes_back l k outer is inside e 0 w f fr (sym (static_in p q v outer is m vs w) ∙ h))
 writes_back (plain.last_local p s) = λ k outer is w f h. last_local p (local_back s outer (at p signs.Semicolon) [] w f tt h)
 writes_back (plain.next_local p {ts} {us} {c} {d} s l) = λ k outer is w f h.
     let first = local_back s outer (at p signs.Comma) us w f tt h in
     next_local p first (writes_back l k (folded outer c) (folded-list outer c is) w f (sym (next_in first outer p us w) ∙ h))
-writes_back (plain.ends p) = λ k links n c outer e m w f h. ends p
-writes_back (plain.otherwise p q {ts} {c} s) = λ k links n a outer e m w f h.
+writes_back (plain.ends p) = λ k links n c outer inside e m w f h. ends p
+writes_back (plain.otherwise p q {ts} {c} s) = λ k links n a outer inside e m w f h.
     let begins =
     token (Ready (Yes links n a outer)) (Ready (No links n a Done outer)) p signs.GroupElse m ((ts ++ at q signs.GroupEnd ∷ []) ++ w) refl refl refl
     ∙ ap (guarded (Ready (No links n a Done outer)) 0) (append_assoc ts (at q signs.GroupEnd ∷ []) w) in
-    otherwise p q (writes_back s k (No links n a Done outer) tt e 0 (at q signs.GroupEnd ∷ w) f tt (sym begins ∙ h))
-writes_back (plain.elif p i {ts} {us} {c} {d} s t) = λ k links n a outer e m w f h.
+    otherwise p q (writes_back s k (No links n a Done outer) tt inside e 0 (at q signs.GroupEnd ∷ w) f tt (sym begins ∙ h))
+writes_back (plain.elif p i {ts} {us} {c} {d} {i = l} s t) = λ k links n a outer inside e m w f h.
     let le : suc (suc (length links) + depth outer) ≤ 64 = opens_few (Ready (Yes links n a outer)) m (at p (signs.GroupElif i)) ((ts ++ us) ++ w) f refl h in
     let j = room_for k (suc (length links) + depth outer) e le in
     let one : j.0 + (suc (suc (length links)) + depth outer) ≡ 64 = omega (arith, e, j.1) in
@@ -198,39 +198,39 @@ writes_back (plain.elif p i {ts} {us} {c} {d} s t) = λ k links n a outer e m w 
     opens_in (Ready (Yes links n a outer)) (Ready (Yes ((n, a) ∷ links) i Done outer)) p (signs.GroupElif i) m ((ts ++ us) ++ w) refl refl le
     ∙ ap (guarded (Ready (Yes ((n, a) ∷ links) i Done outer)) 0) (append_assoc ts us w) in
     let h1 = sym begins ∙ h in
-    let first = writes_back s j.0 (Yes ((n, a) ∷ links) i Done outer) tt one 0 (us ++ w) f (chain_no_else t w) h1 in
-    let h2 = sym (accepted_in first (Yes ((n, a) ∷ links) i Done outer) tt within 0 (us ++ w) (chain_no_else t w)) ∙ h1 in
-    let second = writes_back t j.0 ((n, a) ∷ links) i c outer one 0 w f h2 in
-    subst (λ (y : ℕ). WritesIn y Chained (at p (signs.GroupElif i) ∷ (ts ++ us)) (Cond i c d Done)) (sym j.1) (elif p i first second)
-writes_back (plain.change r {ts} s) = λ k outer room_is m w f fr h.
+    let first = writes_back s j.0 (Yes ((n, a) ∷ links) i Done outer) tt inside one 0 (us ++ w) f (chain_no_else t w) h1 in
+    let h2 = sym (accepted_in first (Yes ((n, a) ∷ links) i Done outer) tt inside within 0 (us ++ w) (chain_no_else t w)) ∙ h1 in
+    let second = writes_back t j.0 ((n, a) ∷ links) i c outer inside one 0 w f h2 in
+    subst (λ (y : ℕ). WritesIn y (Chained l) (at p (signs.GroupElif i) ∷ (ts ++ us)) (Cond i c d Done)) (sym j.1) (elif p i first second)
+writes_back (plain.change r {ts} s) = λ k outer inside room_is m w f fr h.
     change r (change_back s (AsStatement outer) m r w f (sym (ap (guarded (Ready outer) m) (append_assoc ts (at r signs.Semicolon ∷ []) w)) ∙ h))
-writes_back (plain.call p q r s g) = λ k outer e m w f fr h. call p q r s g
-writes_back (plain.void_call p q r s t u v g) = λ k outer e m w f fr h. void_call p q r s t u v g
-writes_back (plain.assert p q r z {ts} {e} s) = λ k outer room_is m w f fr h.
+writes_back (plain.call p q r s g) = λ k outer inside e m w f fr h. call p q r s g
+writes_back (plain.void_call p q r s t u v g) = λ k outer inside e m w f fr h. void_call p q r s t u v g
+writes_back (plain.assert p q r z {ts} {e} s) = λ k outer inside room_is m w f fr h.
     let begins =
     token (Ready outer) (Opens (ToAssert p outer)) p signs.Assert m (at q signs.Open ∷ ((ts ++ at r signs.Close ∷ at z signs.Semicolon ∷ []) ++ w)) refl refl refl
     ∙ token (Opens (ToAssert p outer)) (Wants [] (ToAssert p outer)) q signs.Open 0 ((ts ++ at r signs.Close ∷ at z signs.Semicolon ∷ []) ++ w) refl refl refl in
     assert p q r z (full_back s (ToAssert p outer) (at r signs.Close) (at z signs.Semicolon ∷ []) w f tt (sym begins ∙ h))
-writes_back (plain.skip p) = λ k outer e m w f fr h. skip p
-writes_back (plain.block p q {ts} {c} s) = λ k outer e m w f fr h.
+writes_back (plain.skip p) = λ k outer inside e m w f fr h. skip p
+writes_back (plain.block p q {ts} {c} {i} s) = λ k outer inside e m w f fr h.
     let le : suc (depth outer) ≤ 64 = opens_few (Ready outer) m (at p signs.LeftBrace) ((ts ++ at q signs.RightBrace ∷ []) ++ w) f refl h in
     let j = room_for k (depth outer) e le in
     let one : j.0 + suc (depth outer) ≡ 64 = omega (arith, e, j.1) in
     let begins =
     opens_in (Ready outer) (Ready (Braces p Done outer)) p signs.LeftBrace m ((ts ++ at q signs.RightBrace ∷ []) ++ w) refl refl le
     ∙ ap (guarded (Ready (Braces p Done outer)) 0) (append_assoc ts (at q signs.RightBrace ∷ []) w) in
-    let inner = writes_back s j.0 (Braces p Done outer) tt one 0 (at q signs.RightBrace ∷ w) f tt (sym begins ∙ h) in
-    subst (λ (y : ℕ). WritesIn y (Stated false) (at p signs.LeftBrace ∷ (ts ++ at q signs.RightBrace ∷ [])) (Block p c Done)) (sym j.1) (block p q inner)
-writes_back (plain.while p q r {b} {ts} {us} {e} {c} s t) = λ k outer room_is m w f fr h.
+    let inner = writes_back s j.0 (Braces p Done outer) tt inside one 0 (at q signs.RightBrace ∷ w) f tt (sym begins ∙ h) in
+    subst (λ (y : ℕ). WritesIn y (Stated i false) (at p signs.LeftBrace ∷ (ts ++ at q signs.RightBrace ∷ [])) (Block p c Done)) (sym j.1) (block p q inner)
+writes_back (plain.while p q r {b} {ts} {us} {e} {c} {i} s t) = λ k outer inside room_is m w f fr h.
     let le : suc (depth outer) ≤ 64 = opens_few (Ready outer) m (at p signs.While) (at q signs.Open ∷ ((ts ++ at r signs.Close ∷ us) ++ w)) f refl h in
     let j = room_for k (depth outer) room_is le in
     let one : j.0 + suc (depth outer) ≡ 64 = omega (arith, room_is, j.1) in
     let h1 = sym (head_in (ToLoop p outer) outer p q signs.While m ((ts ++ at r signs.Close ∷ us) ++ w) refl le) ∙ h in
     let full = full_back s (ToLoop p outer) (at r signs.Close) us w f tt h1 in
     let h2 = sym (full_in full (ToLoop p outer) (at r signs.Close) us w tt ∙ last_token full (ToLoop p outer) (Ready (LoopOf Done p e Done outer)) r signs.Close (us ++ w) refl refl refl refl) ∙ h1 in
-    let inner = writes_back t j.0 (LoopOf Done p e Done outer) one 0 w f fr h2 in
-    subst (λ (y : ℕ). WritesIn y (Stated b) (at p signs.While ∷ at q signs.Open ∷ (ts ++ at r signs.Close ∷ us)) (While p e Done c Done)) (sym j.1) (while p q r full inner)
-writes_back (plain.for p q r z {b} {ts} {us} {vs} {ws} {start} {step = advance} {c} {t} {e} a g d s) = λ k outer room_is m w f fr h.
+    let inner = writes_back t j.0 (LoopOf Done p e Done outer) refl one 0 w f fr h2 in
+    subst (λ (y : ℕ). WritesIn y (Stated i b) (at p signs.While ∷ at q signs.Open ∷ (ts ++ at r signs.Close ∷ us)) (While p e Done c Done)) (sym j.1) (while p q r full inner)
+writes_back (plain.for p q r z {b} {ts} {us} {vs} {ws} {start} {step = advance} {c} {t} {e} {i} a g d s) = λ k outer inside room_is m w f fr h.
     let text : List Item = ts ++ at r signs.Semicolon ∷ (us ++ (vs ++ at z signs.Close ∷ ws)) in
     let rest : List Item = us ++ (vs ++ at z signs.Close ∷ (ws ++ w)) in
     let re : text ++ w ≡ ts ++ at r signs.Semicolon ∷ rest = simp append_assoc in
@@ -245,18 +245,18 @@ writes_back (plain.for p q r z {b} {ts} {us} {vs} {ws} {start} {step = advance} 
     let h3 = sym (tests_in tests start outer (vs ++ at z signs.Close ∷ (ws ++ w))) ∙ h2 in
     let last = step_back d start t e outer z (ws ++ w) f h3 in
     let h4 = sym (step_in last start t e outer z (ws ++ w)) ∙ h3 in
-    let inner = writes_back s j.0 (LoopOf start t e advance outer) one 0 w f fr h4 in
-    subst (λ (y : ℕ). WritesIn y (Stated b) (at p signs.For ∷ at q signs.Open ∷ text) (followed start (While t e advance c Done))) (sym j.1) (for p q r z first tests last inner)
-writes_back (plain.if_then p q r {b} {ts} {us} {e} {c} s t) = λ k outer room_is m w f fr h.
+    let inner = writes_back s j.0 (LoopOf start t e advance outer) refl one 0 w f fr h4 in
+    subst (λ (y : ℕ). WritesIn y (Stated i b) (at p signs.For ∷ at q signs.Open ∷ text) (followed start (While t e advance c Done))) (sym j.1) (for p q r z first tests last inner)
+writes_back (plain.if_then p q r {b} {ts} {us} {e} {c} {i} s t) = λ k outer inside room_is m w f fr h.
     let le : suc (depth outer) ≤ 64 = opens_few (Ready outer) m (at p signs.If) (at q signs.Open ∷ ((ts ++ at r signs.Close ∷ us) ++ w)) f refl h in
     let j = room_for k (depth outer) room_is le in
     let one : j.0 + suc (depth outer) ≡ 64 = omega (arith, room_is, j.1) in
     let h1 = sym (head_in (ToChoose p outer) outer p q signs.If m ((ts ++ at r signs.Close ∷ us) ++ w) refl le) ∙ h in
     let full = full_back s (ToChoose p outer) (at r signs.Close) us w f tt h1 in
     let h2 = sym (full_in full (ToChoose p outer) (at r signs.Close) us w tt ∙ last_token full (ToChoose p outer) (Ready (ThenOf p e outer)) r signs.Close (us ++ w) refl refl refl refl) ∙ h1 in
-    let inner = writes_back t j.0 (ThenOf p e outer) one 0 w f (free_of b w fr) h2 in
-    subst (λ (y : ℕ). WritesIn y (Stated true) (at p signs.If ∷ at q signs.Open ∷ (ts ++ at r signs.Close ∷ us)) (If p e c Done Done)) (sym j.1) (if_then p q r full inner)
-writes_back (plain.if_else p q r z {b} {ts} {us} {vs} {e} {c} {d} s t v) = λ k outer room_is m w f fr h.
+    let inner = writes_back t j.0 (ThenOf p e outer) inside one 0 w f (free_of b w fr) h2 in
+    subst (λ (y : ℕ). WritesIn y (Stated i true) (at p signs.If ∷ at q signs.Open ∷ (ts ++ at r signs.Close ∷ us)) (If p e c Done Done)) (sym j.1) (if_then p q r full inner)
+writes_back (plain.if_else p q r z {b} {ts} {us} {vs} {e} {c} {d} {i} s t v) = λ k outer inside room_is m w f fr h.
     let text : List Item = us ++ at z signs.Else ∷ vs in
     let le : suc (depth outer) ≤ 64 = opens_few (Ready outer) m (at p signs.If) (at q signs.Open ∷ ((ts ++ at r signs.Close ∷ text) ++ w)) f refl h in
     let j = room_for k (depth outer) room_is le in
@@ -269,9 +269,24 @@ writes_back (plain.if_else p q r z {b} {ts} {us} {vs} {e} {c} {d} s t v) = λ k 
     ∙ last_token full (ToChoose p outer) (Ready (ThenOf p e outer)) r signs.Close (text ++ w) refl refl refl refl
     ∙ ap (guarded (Ready (ThenOf p e outer)) 0) (append_assoc us (at z signs.Else ∷ vs) w) in
     let h2 = sym head ∙ h1 in
-    let first = writes_back t j.0 (ThenOf p e outer) one 0 (at z signs.Else ∷ (vs ++ w)) f tt h2 in
+    let first = writes_back t j.0 (ThenOf p e outer) inside one 0 (at z signs.Else ∷ (vs ++ w)) f tt h2 in
     let next =
-    accepted_in first (ThenOf p e outer) within 0 (at z signs.Else ∷ (vs ++ w)) tt
+    accepted_in first (ThenOf p e outer) inside within 0 (at z signs.Else ∷ (vs ++ w)) tt
     ∙ token (Ended (ThenOf p e outer) c) (Ready (ElseOf p e c outer)) z signs.Else 0 (vs ++ w) refl refl refl in
-    let second = writes_back v j.0 (ElseOf p e c outer) one 0 w f fr (sym next ∙ h2) in
-    subst (λ (y : ℕ). WritesIn y (Stated b) (at p signs.If ∷ at q signs.Open ∷ (ts ++ at r signs.Close ∷ text)) (If p e c d Done)) (sym j.1) (if_else p q r z full first second)
+    let second = writes_back v j.0 (ElseOf p e c outer) inside one 0 w f fr (sym next ∙ h2) in
+    subst (λ (y : ℕ). WritesIn y (Stated i b) (at p signs.If ∷ at q signs.Open ∷ (ts ++ at r signs.Close ∷ text)) (If p e c d Done)) (sym j.1) (if_else p q r z full first second)
+writes_back (plain.do_while p q r s z {b} {ts} {us} {x} {e} {c} {i} l g) = λ k outer inside room_is m w f fr h.
+    let tail : List Item = at q signs.While ∷ at r signs.Open ∷ x ∷ (us ++ at s signs.Close ∷ at z signs.Semicolon ∷ []) in
+    let free : Free b (tail ++ w) = free_of b (tail ++ w) tt in
+    let le : suc (depth outer) ≤ 64 = opens_few (Ready outer) m (at p signs.Do) ((ts ++ tail) ++ w) f refl h in
+    let j = room_for k (depth outer) room_is le in
+    let one : j.0 + suc (depth outer) ≡ 64 = omega (arith, room_is, j.1) in
+    let within : j.0 + suc (depth outer) ≤ 64 = omega (arith, one) in
+    let h1 = sym (body_in outer p m ts tail w le) ∙ h in
+    let inner = writes_back l j.0 (DoOf p outer) refl one 0 (tail ++ w) f free h1 in
+    let h2 = sym (accepted_in inner (DoOf p outer) refl within 0 (tail ++ w) free ∙ redo_begins q r p c outer x ((us ++ at s signs.Close ∷ at z signs.Semicolon ∷ []) ++ w)) ∙ h1 in
+    let full = full_back g (ToRedo p c x.place outer) (at s signs.Close) (at z signs.Semicolon ∷ []) w f tt h2 in
+    subst (λ (y : ℕ). WritesIn y (Stated i false) (at p signs.Do ∷ (ts ++ tail)) (Do p c x.place e Done)) (sym j.1) (do_while p q r s z inner full)
+writes_back (plain.break p q) = λ k outer inside e m w f fr h. break p q
+writes_back (plain.continue p q) = λ k outer inside e m w f fr h. continue p q
+writes_back (plain.return p q {ts} s) = λ k outer inside e m w f fr h. return p q (full_back s (ToReturn p outer) (at q signs.Semicolon) [] w f tt (sym (return_in p outer m ((ts ++ at q signs.Semicolon ∷ []) ++ w)) ∙ h))

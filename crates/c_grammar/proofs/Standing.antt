@@ -1,20 +1,20 @@
 -- What the items that were read so far were, by what is open.
-use Rattle.std.proofs.Common.{◌≡◌, ℕ, ℤ, suc, ◌<◌, Bool, false, List, [], ◌∷◌, ◌++◌}
+use Rattle.std.proofs.Common.{◌≡◌, ℕ, ℤ, suc, ◌<◌, Bool, true, false, List, [], ◌∷◌, ◌++◌}
 use Rattle.fam_outer.specs.declared.faults.Place.{Place}
 use Rattle.c_tree.specs.declared.tree.Op.TheVariants.{Sub}
 use Rattle.c_tree.specs.declared.lists.Declared.{Declared}
-use Rattle.c_tree.specs.Tree.{Term, Code, Done, Skip, followed}
+use Rattle.c_tree.specs.Tree.{Term, Code, Done, followed}
 use Rattle.c_grammar.specs.declared.items.Sign.{Sign}
 use Rattle.c_grammar.specs.declared.items.Sign.TheVariants as signs
 use Rattle.c_grammar.specs.declared.items.Item.{Item}
 use Rattle.c_grammar.specs.Ahead.{IsList, IsHeld}
 use Rattle.c_grammar.specs.Grammar.{at, tighter, prefix_sign, Expresses, update_sign, count_sign, Callable, Changes, Clause, Tests, Listed, Stated, Locals, LocalDeclarator, Writes, Optional, Typed, Qualifier, Unqualified, Constant, Counted, Begins, Declarator, Defines, with_true, with_false, Outer, Vars, Later, Declares, Gaps, GapRest, Empty, Body, Main, File, file_of, Forms}
-use Rattle.c_grammar.specs.Machine.{Tailing, Another, Final, Frame, Paren, Pre, Left, room, Stack, Top, Braces, Yes, No, ThenOf, ElseOf, LoopOf, Site, AsStatement, AsStart, AsStep, Use, ToAssign, ToInitialise, ToUpdate, ToAssert, ToChoose, ToLoop, ToRepeat, Pending, OfStatement, OfLocal, Sections, Outermost, InPart, InLast, guards_of, Aim, ToPrototype, ToMain, ReadingState, Outside, AfterStatic, AfterExtern, AfterConst, AfterEnum, AfterVoidType, AfterType, Leading, NoWord, StaticWord, ExternWord, ConstWord, TypeWords, OneInt, OneSigned, WholeType, Declaring, Bare, Starting, Negating, Started, Listing, Enumerated, AfterDefine, Defining, NegativeDefining, Enclosing, NegativeEnclosing, Enclosed, Parameters, InParameters, AfterVoid, AfterParameters, Ready, LocalConst, LocalType, NextLocal, LocalNamed, Ended, Wants, Has, Counting, Named, Opens, ForOpens, StartComes, TestComes, StepComes, VoidComes, VoidCloses, CallComes, CallOpens, CallCloses, Finishing, Returning, Returned, Closing, Over, folded, InStatic, BehindStatic, BehindStaticConst, BehindStaticType, BeforeStaticName, BehindStaticName, BehindStaticEquals, BehindStaticMinus, BehindStaticNumber, StaticPart}
+use Rattle.c_grammar.specs.Machine.{Tailing, Another, Final, Frame, Paren, Pre, Left, room, Stack, Top, Braces, Yes, No, ThenOf, ElseOf, LoopOf, DoOf, Onward, InList, AtTest, Site, AsStatement, AsStart, AsStep, Use, ToAssign, ToInitialise, ToUpdate, ToAssert, ToChoose, ToLoop, ToRepeat, ToRedo, ToReturn, Pending, OfStatement, OfLocal, Sections, Outermost, InPart, InLast, guards_of, Aim, ToPrototype, ToMain, ReadingState, Outside, AfterStatic, AfterExtern, AfterConst, AfterEnum, AfterVoidType, AfterType, Leading, NoWord, StaticWord, ExternWord, ConstWord, TypeWords, OneInt, OneSigned, WholeType, Declaring, Bare, Starting, Negating, Started, Listing, Enumerated, AfterDefine, Defining, NegativeDefining, Enclosing, NegativeEnclosing, Enclosed, Parameters, InParameters, AfterVoid, AfterParameters, Ready, LocalConst, LocalType, NextLocal, LocalNamed, Ended, Wants, Has, Counting, Named, Opens, ForOpens, StartComes, TestComes, StepComes, RedoOpens, RedoComes, VoidComes, VoidCloses, CallComes, CallOpens, CallCloses, Finishing, Over, is_in_loop, folded, InStatic, BehindStatic, BehindStaticConst, BehindStaticType, BeforeStaticName, BehindStaticName, BehindStaticEquals, BehindStaticMinus, BehindStaticNumber, StaticPart}
 
--- the parts of a group before this one, and its directive
-abbrev pub Begun : List (ℕ × Code) → ℕ → List Item → Type 0
-Begun [] n a = (p : Place) × (a ≡ at p (signs.GroupIf n) ∷ [])
-Begun (l ∷ links) n a = (p : Place) × (b ts : List Item) × Begun links l.0 b × Writes Listed ts l.1 × (a ≡ b ++ (ts ++ at p (signs.GroupElif n) ∷ []))
+-- the parts of a group before this one, and its directive, in the body of a loop or not
+abbrev pub Begun : Bool → List (ℕ × Code) → ℕ → List Item → Type 0
+Begun i [] n a = (p : Place) × (a ≡ at p (signs.GroupIf n) ∷ [])
+Begun i (l ∷ links) n a = (p : Place) × (b ts : List Item) × Begun i links l.0 b × Writes (Listed i) ts l.1 × (a ≡ b ++ (ts ++ at p (signs.GroupElif n) ∷ []))
 
 -- the items of a file up to the body of `main`, with its declarators
 abbrev pub Headed : List Item → List Declared → Type 0
@@ -26,13 +26,29 @@ pub data LoopHead : Code → Place → Term → Code → List Item → Type 0 wh
   for_head : (p q r s : Place) {ts us vs : List Item} {start advance : Code} {t : Place} {e : Term} → Clause ts start → Tests us t e → Clause vs advance → LoopHead start t e advance (at p signs.For ∷ at q signs.Open ∷ (ts ++ at r signs.Semicolon ∷ (us ++ (vs ++ at s signs.Close ∷ []))))
 
 abbrev pub Read : Stack → List Item → Type 0
-Read (Top ds made) a = (b ts : List Item) × Headed b ds × Writes Listed ts made × (a ≡ b ++ ts)
-Read (Braces p made outer) a = (b ts : List Item) × Read outer b × Writes Listed ts made × (a ≡ b ++ (at p signs.LeftBrace ∷ ts))
-Read (Yes links n made outer) a = (b us ts : List Item) × Read outer b × IsList outer × Begun links n us × Writes Listed ts made × (a ≡ b ++ (us ++ ts))
-Read (No links n first made outer) a = (b us vs ts : List Item) × (p : Place) × Read outer b × IsList outer × Begun links n us × Writes Listed vs first × Writes Listed ts made × (a ≡ b ++ (us ++ (vs ++ at p signs.GroupElse ∷ ts)))
+Read (Top ds made) a = (b ts : List Item) × Headed b ds × Writes (Listed false) ts made × (a ≡ b ++ ts)
+Read (Braces p made outer) a = (b ts : List Item) × Read outer b × Writes (Listed (is_in_loop outer)) ts made × (a ≡ b ++ (at p signs.LeftBrace ∷ ts))
+Read (Yes links n made outer) a = (b us ts : List Item) × Read outer b × IsList outer × Begun (is_in_loop outer) links n us × Writes (Listed (is_in_loop outer)) ts made × (a ≡ b ++ (us ++ ts))
+Read (No links n first made outer) a = (b us vs ts : List Item) × (p : Place) × Read outer b × IsList outer × Begun (is_in_loop outer) links n us × Writes (Listed (is_in_loop outer)) vs first × Writes (Listed (is_in_loop outer)) ts made × (a ≡ b ++ (us ++ (vs ++ at p signs.GroupElse ∷ ts)))
 Read (ThenOf p e outer) a = (q r : Place) × (b ts : List Item) × Read outer b × Expresses 6 ts e × (a ≡ b ++ (at p signs.If ∷ at q signs.Open ∷ (ts ++ at r signs.Close ∷ [])))
-Read (ElseOf p e first outer) a = (q r z : Place) × (b ts us : List Item) × Read outer b × Expresses 6 ts e × Writes (Stated false) us first × (a ≡ b ++ (at p signs.If ∷ at q signs.Open ∷ (ts ++ at r signs.Close ∷ (us ++ at z signs.Else ∷ []))))
+Read (ElseOf p e first outer) a = (q r z : Place) × (b ts us : List Item) × Read outer b × Expresses 6 ts e × Writes (Stated (is_in_loop outer) false) us first × (a ≡ b ++ (at p signs.If ∷ at q signs.Open ∷ (ts ++ at r signs.Close ∷ (us ++ at z signs.Else ∷ []))))
 Read (LoopOf start p e advance outer) a = (b ts : List Item) × Read outer b × LoopHead start p e advance ts × (a ≡ b ++ ts)
+Read (DoOf p outer) a = (b : List Item) × Read outer b × (a ≡ b ++ at p signs.Do ∷ [])
+
+-- behind the body of a `do`; behind its `while`; before its test
+abbrev pub BehindBody : Place → Code → Stack → List Item → Type 0
+BehindBody p c outer a = (b ts : List Item) × (d : Bool) × Read outer b × Writes (Stated true d) ts c × (a ≡ b ++ at p signs.Do ∷ ts)
+
+abbrev pub BehindWhile : Place → Code → Stack → List Item → Type 0
+BehindWhile p c outer a = (q : Place) × (b ts : List Item) × (d : Bool) × Read outer b × Writes (Stated true d) ts c × (a ≡ b ++ at p signs.Do ∷ (ts ++ at q signs.While ∷ []))
+
+abbrev pub InRedo : Place → Code → Stack → List Item → Type 0
+InRedo p c outer a = (q r : Place) × (b ts : List Item) × (d : Bool) × Read outer b × Writes (Stated true d) ts c × (a ≡ b ++ at p signs.Do ∷ (ts ++ at q signs.While ∷ at r signs.Open ∷ []))
+
+-- behind a statement, where no `else` comes
+abbrev pub StandsOn : Onward → List Item → Type 0
+StandsOn (InList outer) a = Read outer a
+StandsOn (AtTest p c outer) a = BehindBody p c outer a
 
 -- in the parentheses of a `for`: before what stands before its first test; before its test; behind its test
 abbrev pub InStart : Stack → List Item → Type 0
@@ -60,7 +76,7 @@ pub record InDeclaration (kind : Qualifier) (outer : Stack) (a : List Item) : Ty
   pub is_read : Read before start
   pub is_list : IsList before
   pub folds : outer ≡ folded before made
-  pub goes_on : (ts : List Item) (c : Code) → Writes (Locals kind) ts c → Writes Listed (text ++ ts) (followed made c)
+  pub goes_on : (ts : List Item) (c : Code) → Writes (Locals kind) ts c → Writes (Listed (is_in_loop before)) (text ++ ts) (followed made c)
   pub parts : a ≡ start ++ text
 
 abbrev pub Used : Use → List Item → Type 0
@@ -71,6 +87,8 @@ Used (ToAssert p outer) a = (q : Place) × (b : List Item) × Read outer b × (a
 Used (ToChoose p outer) a = (q : Place) × (b : List Item) × Read outer b × (a ≡ b ++ (at p signs.If ∷ at q signs.Open ∷ []))
 Used (ToLoop p outer) a = (q : Place) × (b : List Item) × Read outer b × (a ≡ b ++ (at p signs.While ∷ at q signs.Open ∷ []))
 Used (ToRepeat start p outer) a = InTest start outer a
+Used (ToRedo p c q outer) a = InRedo p c outer a
+Used (ToReturn p outer) a = (b : List Item) × Read outer b × (a ≡ b ++ at p signs.Return ∷ [])
 
 abbrev pub UsedAt : Use → List Item → Type 0
 UsedAt (ToAssign p x site) a = ⊥
@@ -80,15 +98,18 @@ UsedAt (ToAssert p outer) a = (b : List Item) × Read outer b × (a ≡ b ++ at 
 UsedAt (ToChoose p outer) a = (b : List Item) × Read outer b × (a ≡ b ++ at p signs.If ∷ [])
 UsedAt (ToLoop p outer) a = (b : List Item) × Read outer b × (a ≡ b ++ at p signs.While ∷ [])
 UsedAt (ToRepeat start p outer) a = ⊥
+UsedAt (ToRedo p c q outer) a = ⊥
+UsedAt (ToReturn p outer) a = ⊥
 
 -- the first item has this place
 abbrev pub StartsAt : Place → List Item → Type 0
 StartsAt p [] = ⊥
 StartsAt p (x ∷ w) = x.place ≡ p
 
--- the test of a `for` starts at the place of its loop
+-- the test of a `for` starts at the place of its loop, and that of a `do` at its own
 abbrev pub Starts : Use → List Item → Type 0
 Starts (ToRepeat start p outer) ts = StartsAt p ts
+Starts (ToRedo p c q outer) ts = StartsAt q ts
 Starts _ ts = Unit {0}
 
 -- these items of an expression are its first where no frame stands before them
@@ -109,7 +130,7 @@ StandsBefore (OfLocal kind outer c) b = InDeclaration kind outer b
 
 -- a statement but for its semicolon, or a change in a `for`
 abbrev pub PendsAt : Site → Code → List Item → Type 0
-PendsAt (AsStatement outer) c ts = (s : Place) → Writes (Stated false) (ts ++ at s signs.Semicolon ∷ []) c
+PendsAt (AsStatement outer) c ts = (s : Place) → Writes (Stated (is_in_loop outer) false) (ts ++ at s signs.Semicolon ∷ []) c
 PendsAt (AsStart outer) c ts = Changes ts c
 PendsAt (AsStep start p e outer) c ts = Changes ts c
 
@@ -119,13 +140,14 @@ Pends (OfLocal kind outer c) ts = LocalDeclarator kind ts c
 
 -- what is put into the stack: in a list any list, elsewhere one statement
 abbrev pub Piece : Bool → Stack → List Item → Code → Type 0
-Piece d (Top ds made) ts c = Writes Listed ts c
-Piece d (Braces p made outer) ts c = Writes Listed ts c
-Piece d (Yes links n made outer) ts c = Writes Listed ts c
-Piece d (No links n first made outer) ts c = Writes Listed ts c
-Piece d (ThenOf p e outer) ts c = Writes (Stated d) ts c
-Piece d (ElseOf p e first outer) ts c = Writes (Stated d) ts c
-Piece d (LoopOf start p e advance outer) ts c = Writes (Stated d) ts c
+Piece d (Top ds made) ts c = Writes (Listed false) ts c
+Piece d (Braces p made outer) ts c = Writes (Listed (is_in_loop outer)) ts c
+Piece d (Yes links n made outer) ts c = Writes (Listed (is_in_loop outer)) ts c
+Piece d (No links n first made outer) ts c = Writes (Listed (is_in_loop outer)) ts c
+Piece d (ThenOf p e outer) ts c = Writes (Stated (is_in_loop outer) d) ts c
+Piece d (ElseOf p e first outer) ts c = Writes (Stated (is_in_loop outer) d) ts c
+Piece d (LoopOf start p e advance outer) ts c = Writes (Stated true d) ts c
+Piece d (DoOf p outer) ts c = Writes (Stated true d) ts c
 
 -- ---- what may come next
 
@@ -167,7 +189,7 @@ pub record InStaticDeclaration (kind : Qualifier) (outer : Stack) (a : List Item
   pub is_read : Read outer start
   pub is_list : IsList outer
   pub is_held : IsHeld kind
-  pub goes_on : (ts : List Item) (ds : List Declared) → Declares (Vars kind []) ts ds → Writes Listed (text ++ ts) Done
+  pub goes_on : (ts : List Item) (ds : List Declared) → Declares (Vars kind []) ts ds → Writes (Listed (is_in_loop outer)) (text ++ ts) Done
   pub parts : a ≡ start ++ text
 
 -- what of a static declaration in `main` is read
@@ -251,13 +273,12 @@ Stands (ForOpens outer) a = (p : Place) × (b : List Item) × Read outer b × (a
 Stands (StartComes outer) a = InStart outer a
 Stands (TestComes start outer) a = InTest start outer a
 Stands (StepComes start p e outer) a = InStep start p e outer a
+Stands (RedoOpens p c outer) a = BehindWhile p c outer a
+Stands (RedoComes p c outer) a = InRedo p c outer a
 Stands (VoidComes p outer) a = (b : List Item) × Read outer b × (a ≡ b ++ at p signs.Open ∷ [])
 Stands (VoidCloses p outer) a = (q : Place) × (b : List Item) × Read outer b × (a ≡ b ++ (at p signs.Open ∷ at q signs.Void ∷ []))
 Stands (CallComes p outer) a = (q r : Place) × (b : List Item) × Read outer b × (a ≡ b ++ (at p signs.Open ∷ at q signs.Void ∷ at r signs.Close ∷ []))
 Stands (CallOpens made) a = (b ts : List Item) × StandsBefore made b × ((q r : Place) → Pends made (ts ++ at q signs.Open ∷ at r signs.Close ∷ [])) × (a ≡ b ++ ts)
 Stands (CallCloses made) a = (b ts : List Item) × StandsBefore made b × ((q : Place) → Pends made (ts ++ at q signs.Close ∷ [])) × (a ≡ b ++ ts)
 Stands (Finishing made) a = (b ts : List Item) × StandsBefore made b × Pends made ts × (a ≡ b ++ ts)
-Stands (Returning r ds made) a = (n : ℤ) (s q p : Place) (w : List Item) → Empty Gaps w → Forms (a ++ at s (signs.Number n) ∷ at q signs.Semicolon ∷ at p signs.RightBrace ∷ w) (file_of ds (followed made (Skip r Done)) p)
-Stands (Returned ds made) a = (q p : Place) (w : List Item) → Empty Gaps w → Forms (a ++ at q signs.Semicolon ∷ at p signs.RightBrace ∷ w) (file_of ds made p)
-Stands (Closing ds made) a = (p : Place) (w : List Item) → Empty Gaps w → Forms (a ++ at p signs.RightBrace ∷ w) (file_of ds made p)
 Stands (Over f parts) a = (w : List Item) → Trailing parts w → Forms (a ++ w) f

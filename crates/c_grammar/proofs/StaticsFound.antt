@@ -14,9 +14,9 @@ use Rattle.c_grammar.specs.Groups.{guarded_by, Sections, Outermost, InPart, InLa
 use Rattle.c_grammar.specs.Items.{is_main, is_declaring}
 use Rattle.c_grammar.specs.Statics.{behind_main, static_behind, statics_from, statics_by}
 use Rattle.c_grammar.specs.LocalsOf.{statics_in, statics_of_body, statics_of_main, StaticsAreOfTheGrammar}
-use Rattle.c_grammar.specs.Grammar.{at, bare, positive, negative, variables_end, constants_end, Typed, int, int32, signed, signed_int, int_signed, Qualifier, Unqualified, Constant, Counted, Qualified, unqualified, const_before, const_behind, with_true, with_false, declared, Vars, Declares, last_var, next_var, Shape, Listed, Stated, Chained, Locals, Writes, none, more, choice, local, static_local, last_local, next_local, ends, otherwise, elif, change, call, void_call, assert, skip, block, while, for, if_then, if_else, Part, Begins, only_type, then_type, enumeration, nothing, variables, prototype, void_prototype, definition, section, end_part, else_part, elif_part, Returns, Gap, Gaps, Empty, no_more, empty_section, empty_end, empty_else, empty_elif, Body, body, Main, main, file}
+use Rattle.c_grammar.specs.Grammar.{at, bare, positive, negative, variables_end, constants_end, Typed, int, int32, signed, signed_int, int_signed, Qualifier, Unqualified, Constant, Counted, Qualified, unqualified, const_before, const_behind, with_true, with_false, declared, Vars, Declares, last_var, next_var, Shape, Listed, Stated, Chained, Locals, Writes, none, more, choice, local, static_local, last_local, next_local, ends, otherwise, elif, change, call, void_call, assert, skip, block, while, for, if_then, if_else, do_while, break, continue, return, Part, Begins, only_type, then_type, enumeration, nothing, variables, prototype, void_prototype, definition, section, end_part, else_part, elif_part, Gap, Gaps, Empty, no_more, empty_section, empty_end, empty_else, empty_elif, Body, body, Main, main, file}
 use Rattle.c_grammar.proofs.Complete.{qualified_held}
-use Rattle.c_grammar.proofs.Quiet.{is_quiet, AreQuiet, quiet_both, expr_quiet, function_quiet, change_quiet, clause_quiet, tests_quiet, optional_quiet, type_quiet, qualified_quiet, locals_quiet, declarator_quiet, ending_quiet, vars_quiet, extern_quiet, definition_quiet, return_quiet}
+use Rattle.c_grammar.proofs.Quiet.{is_quiet, AreQuiet, quiet_both, expr_quiet, function_quiet, change_quiet, clause_quiet, tests_quiet, optional_quiet, type_quiet, qualified_quiet, locals_quiet, declarator_quiet, ending_quiet, vars_quiet, extern_quiet, definition_quiet, redo_quiet, return_quiet}
 
 -- ---- text with no static declaration
 
@@ -85,9 +85,9 @@ static_found {kind} {us = us} p q v secs declaring w = qualified_found q secs (u
 
 -- what is found in text, before what is found behind it; in what closes a group, whose part so far has other guards
 abbrev Found : {s : Shape} {ts : List Item} {c : Code} → Writes s ts c → Type 0
-Found {s = Listed} {ts} d = (secs : Sections) (declaring : Bool) (w : List Item) → statics_from false declaring secs (ts ++ w) ≡ statics_in (guards_of secs) d ++ statics_from false false secs w
-Found {s = Stated b} {ts} d = (secs : Sections) (declaring : Bool) (w : List Item) → statics_from false declaring secs (ts ++ w) ≡ statics_in (guards_of secs) d ++ statics_from false false secs w
-Found {s = Chained} {ts} d = (gs : List Guard) (n : ℕ) (outer : Sections) (declaring : Bool) (w : List Item) → statics_from false declaring (InPart gs n outer) (ts ++ w) ≡ statics_in (with_false gs n) d ++ statics_from false false outer w
+Found {s = Listed i} {ts} d = (secs : Sections) (declaring : Bool) (w : List Item) → statics_from false declaring secs (ts ++ w) ≡ statics_in (guards_of secs) d ++ statics_from false false secs w
+Found {s = Stated i b} {ts} d = (secs : Sections) (declaring : Bool) (w : List Item) → statics_from false declaring secs (ts ++ w) ≡ statics_in (guards_of secs) d ++ statics_from false false secs w
+Found {s = Chained i} {ts} d = (gs : List Guard) (n : ℕ) (outer : Sections) (declaring : Bool) (w : List Item) → statics_from false declaring (InPart gs n outer) (ts ++ w) ≡ statics_in (with_false gs n) d ++ statics_from false false outer w
 Found {s = Locals kind} d = Unit {0}
 
 -- one text before another
@@ -155,6 +155,14 @@ code_found (if_else p q r z {b} {ts} {us} {vs} e s t) = λ secs declaring w.
     let rest : List Declared = statics_from false false secs w in
     behind_quiet secs false ts (at r signs.Close ∷ (us ++ at z signs.Else ∷ vs)) w ((ds ++ es) ++ rest) (expr_quiet e)
     (both secs false us (at z signs.Else ∷ vs) w ds es rest (code_found s secs false) (code_found t secs false w))
+code_found (do_while p q r s t {b} {ts} {us} {x} l e) = λ secs declaring w.
+    let tail : List Item = at q signs.While ∷ at r signs.Open ∷ x ∷ (us ++ at s signs.Close ∷ at t signs.Semicolon ∷ []) in
+    ap (statics_from false false secs) (append_assoc ts tail w)
+    ∙ code_found l secs false (tail ++ w)
+    ∙ ap (λ (y : List Declared). statics_in (guards_of secs) l ++ y) (quiet_found tail (redo_quiet q r s t e) secs false w)
+code_found (break p q) = λ secs declaring w. refl
+code_found (continue p q) = λ secs declaring w. refl
+code_found (return p q {ts} e) = λ secs declaring w. quiet_found (at p signs.Return ∷ (ts ++ at q signs.Semicolon ∷ [])) (return_quiet p q e) secs declaring w
 
 -- ---- behind `main`
 
@@ -174,13 +182,9 @@ gap_found (empty_elif p n {us} {vs} a b) secs declaring w h =
 gap_alone : {ts : List Item} → Empty Gaps ts → statics_from false false Outermost ts ≡ []
 gap_alone {ts} e = ap (statics_from false false Outermost) (sym (append-nil ts)) ∙ gap_found e Outermost false [] (λ outer behind. refl)
 
--- what follows the statements of `main`
-pub rest_found : {vs ws : List Item} {d : Code} (p : Place) → Returns vs d → Empty Gaps ws → statics_from false false Outermost (vs ++ at p signs.RightBrace ∷ ws) ≡ []
-rest_found {vs} {ws} p r e = quiet_found vs (return_quiet r) Outermost false (at p signs.RightBrace ∷ ws) ∙ gap_alone e
-
 body_found : {ts : List Item} {c : Code} {p : Place} → (b : Body ts c p) → statics_from false false Outermost ts ≡ statics_of_body b
-body_found (body p {us} {vs} {ws} s r e) =
-    code_found s Outermost false (vs ++ at p signs.RightBrace ∷ ws) ∙ ap (λ (y : List Declared). statics_in [] s ++ y) (rest_found p r e) ∙ append-nil (statics_in [] s)
+body_found (body p {us} {vs} s e) =
+    code_found s Outermost false (at p signs.RightBrace ∷ vs) ∙ ap (λ (y : List Declared). statics_in [] s ++ y) (gap_alone e) ∙ append-nil (statics_in [] s)
 
 -- ---- before `main`
 

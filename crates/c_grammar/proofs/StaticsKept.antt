@@ -12,14 +12,14 @@ use Rattle.c_grammar.specs.Groups.{declared, guarded_by, Outermost}
 use Rattle.c_grammar.specs.Statics.{statics_from}
 use Rattle.c_grammar.specs.LocalsOf.{statics_in}
 use Rattle.c_grammar.specs.Kept.{kept_from}
-use Rattle.c_grammar.specs.Grammar.{at, Qualifier, Qualified, with_true, with_false, Vars, Declares, Shape, Listed, Stated, Chained, Locals, Writes, none, more, choice, local, static_local, last_local, next_local, ends, otherwise, elif, change, call, void_call, assert, skip, block, while, for, if_then, if_else, has_groups, is_group}
+use Rattle.c_grammar.specs.Grammar.{at, Qualifier, Qualified, with_true, with_false, Vars, Declares, Shape, Listed, Stated, Chained, Locals, Writes, none, more, choice, local, static_local, last_local, next_local, ends, otherwise, elif, change, call, void_call, assert, skip, block, while, for, if_then, if_else, do_while, break, continue, return, has_groups, is_group}
 use Rattle.cpp_groups.specs.declared.section.Section.{Section}
 use Rattle.cpp_groups.specs.declared.section.Section.TheVariants.{Seeking}
 use Rattle.cpp_groups.specs.Kept.{next_group, all_kept, truth}
 use Rattle.c_grammar.proofs.Guards.{seeks, else_matches, in_true, in_false}
 use Rattle.c_grammar.proofs.Keeping.{all_stay, all_go, no_group_in, qualified_plain, vars_plain}
 use Rattle.c_grammar.proofs.KeptDeclarators.{kept_declared, kept_both}
-use Rattle.c_grammar.proofs.Quiet.{is_quiet, AreQuiet, quiet_both, expr_quiet, function_quiet, change_quiet, clause_quiet, tests_quiet, qualified_quiet, locals_quiet}
+use Rattle.c_grammar.proofs.Quiet.{is_quiet, AreQuiet, quiet_both, expr_quiet, function_quiet, change_quiet, clause_quiet, tests_quiet, qualified_quiet, locals_quiet, redo_quiet, return_quiet}
 use Rattle.c_grammar.proofs.StaticsFound.{quiet_found, static_found}
 
 -- what is found in what stays
@@ -73,9 +73,9 @@ static_kept {ts = ts} {us} {ds} t p q v hs secs h w =
 
 -- what stays of text, before what stays of what is behind it; in what closes a group, whose part so far has the guards of a condition
 abbrev pub KeepsStatics : List Bool → {s : Shape} {ts : List Item} {c : Code} → Writes s ts c → Type 0
-KeepsStatics t {s = Listed} {ts} d = (gs : List Guard) (secs : List Section) → guards_hold t gs ≡ all_kept secs → (w : List Item) → kept_statics t secs (ts ++ w) ≡ kept_declared t (statics_in gs d) ++ kept_statics t secs w
-KeepsStatics t {s = Stated b} {ts} d = (gs : List Guard) (secs : List Section) → guards_hold t gs ≡ all_kept secs → (w : List Item) → kept_statics t secs (ts ++ w) ≡ kept_declared t (statics_in gs d) ++ kept_statics t secs w
-KeepsStatics t {s = Chained} {ts} d = (gs : List Guard) (n : ℕ) (sec : Section) (secs : List Section) → guards_hold t gs ≡ seeks sec secs → (w : List Item) → kept_statics t (next_group sec (truth t n) ∷ secs) (ts ++ w) ≡ kept_declared t (statics_in (with_false gs n) d) ++ kept_statics t secs w
+KeepsStatics t {s = Listed i} {ts} d = (gs : List Guard) (secs : List Section) → guards_hold t gs ≡ all_kept secs → (w : List Item) → kept_statics t secs (ts ++ w) ≡ kept_declared t (statics_in gs d) ++ kept_statics t secs w
+KeepsStatics t {s = Stated i b} {ts} d = (gs : List Guard) (secs : List Section) → guards_hold t gs ≡ all_kept secs → (w : List Item) → kept_statics t secs (ts ++ w) ≡ kept_declared t (statics_in gs d) ++ kept_statics t secs w
+KeepsStatics t {s = Chained i} {ts} d = (gs : List Guard) (n : ℕ) (sec : Section) (secs : List Section) → guards_hold t gs ≡ seeks sec secs → (w : List Item) → kept_statics t (next_group sec (truth t n) ∷ secs) (ts ++ w) ≡ kept_declared t (statics_in (with_false gs n) d) ++ kept_statics t secs w
 KeepsStatics t {s = Locals kind} d = Unit {0}
 
 nothing_kept : (t : List Bool) (ds : List Declared) → ds ≡ kept_declared t [] ++ ds
@@ -164,3 +164,12 @@ code_kept t (if_else p q r z {b} {ts} {us} {vs} e s l) = λ gs secs h w.
     behind_quiet t secs (at p signs.If ∷ at q signs.Open ∷ []) (ts ++ at r signs.Close ∷ (us ++ at z signs.Else ∷ vs)) w rest (refl, (refl, tt))
     (behind_quiet t secs ts (at r signs.Close ∷ (us ++ at z signs.Else ∷ vs)) w rest (expr_quiet e)
     (behind_quiet t secs (at r signs.Close ∷ []) (us ++ at z signs.Else ∷ vs) w rest (refl, tt) (both t secs secs us (at z signs.Else ∷ vs) w (statics_in gs s) (statics_in gs l) (kept_statics t secs w) (code_kept t s gs secs h) second)))
+code_kept t (do_while p q r s z {b} {ts} {us} {x} l e) = λ gs secs h w.
+    let tail : List Item = at q signs.While ∷ at r signs.Open ∷ x ∷ (us ++ at s signs.Close ∷ at z signs.Semicolon ∷ []) in
+    behind_quiet t secs (at p signs.Do ∷ []) (ts ++ tail) w (kept_declared t (statics_in gs l) ++ kept_statics t secs w) (refl, tt)
+    (ap (kept_statics t secs) (append_assoc ts tail w)
+    ∙ code_kept t l gs secs h (tail ++ w)
+    ∙ ap (λ (y : List Declared). kept_declared t (statics_in gs l) ++ y) (quiet_kept t secs tail w (redo_quiet q r s z e)))
+code_kept t (break p q) = λ gs secs h w. quiet_alone t secs (at p signs.Break ∷ at q signs.Semicolon ∷ []) w (refl, (refl, tt))
+code_kept t (continue p q) = λ gs secs h w. quiet_alone t secs (at p signs.Continue ∷ at q signs.Semicolon ∷ []) w (refl, (refl, tt))
+code_kept t (return p q {ts} e) = λ gs secs h w. quiet_alone t secs (at p signs.Return ∷ (ts ++ at q signs.Semicolon ∷ [])) w (return_quiet p q e)

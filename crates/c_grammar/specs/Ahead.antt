@@ -4,7 +4,7 @@ use Rattle.c_grammar.specs.declared.items.Sign.{Sign}
 use Rattle.c_grammar.specs.declared.items.Sign.TheVariants as signs
 use Rattle.c_grammar.specs.declared.items.Item.{Item}
 use Rattle.c_grammar.specs.Grammar.{tighter, Qualifier, Unqualified, Constant, Counted}
-use Rattle.c_grammar.specs.Machine.{Stack, Top, Braces, Yes, No, ThenOf, ElseOf, LoopOf}
+use Rattle.c_grammar.specs.Machine.{Stack, Top, Braces, Yes, No, ThenOf, ElseOf, LoopOf, DoOf}
 
 -- an operator that comes next is not tighter than a level
 abbrev pub IsLooser : ℕ → Sign → Type 0
@@ -24,6 +24,7 @@ IsList (No links n first made outer) = Unit {0}
 IsList (ThenOf p e outer) = ⊥
 IsList (ElseOf p e first outer) = ⊥
 IsList (LoopOf start p e advance outer) = ⊥
+IsList (DoOf p outer) = ⊥
 
 abbrev pub IsNoElse : Sign → Type 0
 IsNoElse signs.Else = ⊥

@@ -5,7 +5,7 @@ use Rattle.c_grammar.specs.declared.items.Sign.{Sign}
 use Rattle.c_grammar.specs.declared.items.Sign.TheVariants as signs
 use Rattle.c_grammar.specs.declared.items.Item.{Item}
 use Rattle.c_grammar.specs.Grammar.{File}
-use Rattle.c_grammar.specs.Machine.{Stack, Top, Braces, Yes, No, ThenOf, ElseOf, LoopOf, Sections, guards_of, Tailing, Another, Final, ReadingState, Outside, Ready, Ended, Wants, Has, TestComes, Over, step, finish, folded}
+use Rattle.c_grammar.specs.Machine.{Stack, Top, Braces, Yes, No, ThenOf, ElseOf, LoopOf, DoOf, Onward, InList, AtTest, Sections, guards_of, Tailing, Another, Final, ReadingState, Outside, Ready, Ended, Wants, Has, TestComes, RedoComes, Over, step, finish, placed}
 
 -- ---- statements and groups
 
@@ -18,6 +18,12 @@ depth (No links n first made outer) = suc (length links) + depth outer
 depth (ThenOf p e outer) = suc (depth outer)
 depth (ElseOf p e first outer) = suc (depth outer)
 depth (LoopOf start p e advance outer) = suc (depth outer)
+depth (DoOf p outer) = suc (depth outer)
+
+-- the same behind a statement: nothing is opened before the test of a `do`
+abbrev pub onward_depth : Onward → ℕ
+onward_depth (InList outer) = depth outer
+onward_depth (AtTest p c outer) = 0
 
 -- the same around declarations, where each `#if` and `#elif` so far has left a guard
 abbrev pub section_depth : Sections → ℕ
@@ -32,7 +38,7 @@ tail_depth (Final k ∷ parts) = k + tail_depth parts
 abbrev pub around : ReadingState → ℕ
 around (Outside secs ds) = section_depth secs
 around (Ready outer) = depth outer
-around (Ended outer c) = depth (folded outer c)
+around (Ended outer c) = onward_depth (placed outer c)
 around (Over f parts) = tail_depth parts
 around _ = 0
 
@@ -41,6 +47,7 @@ abbrev pub opens_more : Sign → Bool
 opens_more signs.If = true
 opens_more signs.While = true
 opens_more signs.For = true
+opens_more signs.Do = true
 opens_more signs.LeftBrace = true
 opens_more (signs.GroupIf n) = true
 opens_more (signs.GroupElif n) = true
@@ -58,16 +65,18 @@ is_operator signs.Bang = true
 is_operator signs.Open = true
 is_operator _ = false
 
--- the item belongs to an expression; that behind the start of a `for` may be the first of one
+-- the item belongs to an expression; that behind the start of a `for` may be the first of one, and the test of a `do` begins with it
 abbrev pub in_expression : ReadingState → Bool
 in_expression (Wants fs u) = true
 in_expression (Has fs u e) = true
 in_expression (TestComes start outer) = true
+in_expression (RedoComes p c outer) = true
 in_expression _ = false
 
--- how many the expression has so far: the test of a `for` is one of its own
+-- how many the expression has so far: the test of a `for` or of a `do` is one of its own
 abbrev pub so_far : ReadingState → ℕ → ℕ
 so_far (TestComes start outer) count = 0
+so_far (RedoComes p c outer) count = 0
 so_far _ count = count
 
 -- how many operators and opening parentheses the expression has, with this item

@@ -7,7 +7,7 @@ use Rattle.c_tree.specs.declared.tree.Op.TheVariants.{Add, Sub, Mul, Div, Rem, L
 use Rattle.c_tree.specs.declared.lists.Guard.{Guard}
 use Rattle.c_tree.specs.declared.lists.Declared.{Declared}
 use Rattle.c_tree.specs.Value.{greatest}
-use Rattle.c_tree.specs.Tree.{Term, Number, Var, Neg, Not, Binary, Code, Done, Assign, Input, Assert, If, While, Block, Skip, Cond, followed, Whole}
+use Rattle.c_tree.specs.Tree.{Term, Number, Var, Neg, Not, Binary, Break, Continue, Return, Code, Done, Assign, Input, Assert, If, While, Do, Leave, Block, Skip, Cond, followed, Whole}
 use Rattle.c_tree.specs.Project.{projected_start}
 use Rattle.c_grammar.specs.declared.items.Sign.{Sign}
 use Rattle.c_grammar.specs.declared.items.Sign.TheVariants as signs
@@ -226,45 +226,45 @@ pub data Declares : Part → List Item → List Declared → Type 0 where
 
 -- ---- lists of statements
 
--- a list; a statement, and whether it ends in an `if` without `else`; what closes a group, with its later parts; the declarators
--- of a declaration in `main`, up to its semicolon
+-- a list; a statement, and whether it ends in an `if` without `else`; what closes a group, with its later parts; each of them in the
+-- body of a loop or not; and the declarators of a declaration in `main`, up to its semicolon
 pub data Shape : Type 0 where
-  Listed : Shape
-  Stated : (dangles : Bool) → Shape
-  Chained : Shape
+  Listed : (inside : Bool) → Shape
+  Stated : (inside dangles : Bool) → Shape
+  Chained : (inside : Bool) → Shape
   Locals : (kind : Qualifier) → Shape
 
 -- a statement is a list of one, and a `for` a list of its loop, behind the change before the first test; an absent `else` is the
 -- empty list; `#elif` opens a choice in the no side; a declaration is a list of a statement for each of its declarators,
--- and a static one leaves no statement (6.2.4p3): its variables have their values from the start
+-- and a static one leaves no statement (6.2.4p3): its variables have their values from the start. `break` and `continue` stand in
+-- the body of a loop (6.8.6.2 and 6.8.6.3), and the test of a `do` (6.8.5.2) has the place of its first token
 pub data Writes : Shape → List Item → Code → Type 0 where
-  none : Writes Listed [] Done
-  more : {b : Bool} {ts us : List Item} {c d : Code} → Writes (Stated b) ts c → Writes Listed us d → Writes Listed (ts ++ us) (followed c d)
-  choice : (p : Place) (n : ℕ) {ts us vs : List Item} {c d e : Code} → Writes Listed ts c → Writes Chained us d → Writes Listed vs e → Writes Listed (at p (signs.GroupIf n) ∷ (ts ++ (us ++ vs))) (Cond n c d e)
-  local : {ts us vs : List Item} {c d : Code} {kind : Qualifier} → Qualified kind ts → Writes (Locals kind) us c → Writes Listed vs d → Writes Listed (ts ++ (us ++ vs)) (followed c d)
-  static_local : (p : Place) {ts us vs : List Item} {ds : List Declared} {c : Code} {kind : Qualifier} → Qualified kind ts → Declares (Vars kind []) us ds → Writes Listed vs c → Writes Listed (at p signs.Static ∷ (ts ++ (us ++ vs))) c
+  none : {i : Bool} → Writes (Listed i) [] Done
+  more : {b : Bool} {ts us : List Item} {c d : Code} {i : Bool} → Writes (Stated i b) ts c → Writes (Listed i) us d → Writes (Listed i) (ts ++ us) (followed c d)
+  choice : (p : Place) (n : ℕ) {ts us vs : List Item} {c d e : Code} {i : Bool} → Writes (Listed i) ts c → Writes (Chained i) us d → Writes (Listed i) vs e → Writes (Listed i) (at p (signs.GroupIf n) ∷ (ts ++ (us ++ vs))) (Cond n c d e)
+  local : {ts us vs : List Item} {c d : Code} {kind : Qualifier} {i : Bool} → Qualified kind ts → Writes (Locals kind) us c → Writes (Listed i) vs d → Writes (Listed i) (ts ++ (us ++ vs)) (followed c d)
+  static_local : (p : Place) {ts us vs : List Item} {ds : List Declared} {c : Code} {kind : Qualifier} {i : Bool} → Qualified kind ts → Declares (Vars kind []) us ds → Writes (Listed i) vs c → Writes (Listed i) (at p signs.Static ∷ (ts ++ (us ++ vs))) c
   last_local : (p : Place) {ts : List Item} {c : Code} {kind : Qualifier} → LocalDeclarator kind ts c → Writes (Locals kind) (ts ++ at p signs.Semicolon ∷ []) c
   next_local : (p : Place) {ts us : List Item} {c d : Code} {kind : Qualifier} → LocalDeclarator kind ts c → Writes (Locals kind) us d → Writes (Locals kind) (ts ++ at p signs.Comma ∷ us) (followed c d)
-  ends : (p : Place) → Writes Chained (at p signs.GroupEnd ∷ []) Done
-  otherwise : (p q : Place) {ts : List Item} {c : Code} → Writes Listed ts c → Writes Chained (at p signs.GroupElse ∷ (ts ++ at q signs.GroupEnd ∷ [])) c
-  elif : (p : Place) (n : ℕ) {ts us : List Item} {c d : Code} → Writes Listed ts c → Writes Chained us d → Writes Chained (at p (signs.GroupElif n) ∷ (ts ++ us)) (Cond n c d Done)
-  change : (r : Place) {ts : List Item} {c : Code} → Changes ts c → Writes (Stated false) (ts ++ at r signs.Semicolon ∷ []) c
-  call : (p q r s : Place) {f : Sign} → Callable f → Writes (Stated false) (at p f ∷ at q signs.Open ∷ at r signs.Close ∷ at s signs.Semicolon ∷ []) (Skip p Done)
-  void_call : (p q r s t u v : Place) {f : Sign} → Callable f → Writes (Stated false) (at p signs.Open ∷ at q signs.Void ∷ at r signs.Close ∷ at s f ∷ at t signs.Open ∷ at u signs.Close ∷ at v signs.Semicolon ∷ []) (Skip p Done)
-  assert : (p q r s : Place) {ts : List Item} {e : Term} → Expresses 6 ts e → Writes (Stated false) (at p signs.Assert ∷ at q signs.Open ∷ (ts ++ at r signs.Close ∷ at s signs.Semicolon ∷ [])) (Assert p e Done)
-  skip : (p : Place) → Writes (Stated false) (at p signs.Semicolon ∷ []) (Skip p Done)
-  block : (p q : Place) {ts : List Item} {c : Code} → Writes Listed ts c → Writes (Stated false) (at p signs.LeftBrace ∷ (ts ++ at q signs.RightBrace ∷ [])) (Block p c Done)
-  while : (p q r : Place) {b : Bool} {ts us : List Item} {e : Term} {c : Code} → Expresses 6 ts e → Writes (Stated b) us c → Writes (Stated b) (at p signs.While ∷ at q signs.Open ∷ (ts ++ at r signs.Close ∷ us)) (While p e Done c Done)
-  for : (p q r s : Place) {b : Bool} {ts us vs ws : List Item} {start step c : Code} {t : Place} {e : Term} → Clause ts start → Tests us t e → Clause vs step → Writes (Stated b) ws c → Writes (Stated b) (at p signs.For ∷ at q signs.Open ∷ (ts ++ at r signs.Semicolon ∷ (us ++ (vs ++ at s signs.Close ∷ ws)))) (followed start (While t e step c Done))
-  if_then : (p q r : Place) {b : Bool} {ts us : List Item} {e : Term} {c : Code} → Expresses 6 ts e → Writes (Stated b) us c → Writes (Stated true) (at p signs.If ∷ at q signs.Open ∷ (ts ++ at r signs.Close ∷ us)) (If p e c Done Done)
-  if_else : (p q r s : Place) {b : Bool} {ts us vs : List Item} {e : Term} {c d : Code} → Expresses 6 ts e → Writes (Stated false) us c → Writes (Stated b) vs d → Writes (Stated b) (at p signs.If ∷ at q signs.Open ∷ (ts ++ at r signs.Close ∷ (us ++ at s signs.Else ∷ vs))) (If p e c d Done)
+  ends : (p : Place) {i : Bool} → Writes (Chained i) (at p signs.GroupEnd ∷ []) Done
+  otherwise : (p q : Place) {ts : List Item} {c : Code} {i : Bool} → Writes (Listed i) ts c → Writes (Chained i) (at p signs.GroupElse ∷ (ts ++ at q signs.GroupEnd ∷ [])) c
+  elif : (p : Place) (n : ℕ) {ts us : List Item} {c d : Code} {i : Bool} → Writes (Listed i) ts c → Writes (Chained i) us d → Writes (Chained i) (at p (signs.GroupElif n) ∷ (ts ++ us)) (Cond n c d Done)
+  change : (r : Place) {ts : List Item} {c : Code} {i : Bool} → Changes ts c → Writes (Stated i false) (ts ++ at r signs.Semicolon ∷ []) c
+  call : (p q r s : Place) {f : Sign} {i : Bool} → Callable f → Writes (Stated i false) (at p f ∷ at q signs.Open ∷ at r signs.Close ∷ at s signs.Semicolon ∷ []) (Skip p Done)
+  void_call : (p q r s t u v : Place) {f : Sign} {i : Bool} → Callable f → Writes (Stated i false) (at p signs.Open ∷ at q signs.Void ∷ at r signs.Close ∷ at s f ∷ at t signs.Open ∷ at u signs.Close ∷ at v signs.Semicolon ∷ []) (Skip p Done)
+  assert : (p q r s : Place) {ts : List Item} {e : Term} {i : Bool} → Expresses 6 ts e → Writes (Stated i false) (at p signs.Assert ∷ at q signs.Open ∷ (ts ++ at r signs.Close ∷ at s signs.Semicolon ∷ [])) (Assert p e Done)
+  skip : (p : Place) {i : Bool} → Writes (Stated i false) (at p signs.Semicolon ∷ []) (Skip p Done)
+  block : (p q : Place) {ts : List Item} {c : Code} {i : Bool} → Writes (Listed i) ts c → Writes (Stated i false) (at p signs.LeftBrace ∷ (ts ++ at q signs.RightBrace ∷ [])) (Block p c Done)
+  while : (p q r : Place) {b : Bool} {ts us : List Item} {e : Term} {c : Code} {i : Bool} → Expresses 6 ts e → Writes (Stated true b) us c → Writes (Stated i b) (at p signs.While ∷ at q signs.Open ∷ (ts ++ at r signs.Close ∷ us)) (While p e Done c Done)
+  for : (p q r s : Place) {b : Bool} {ts us vs ws : List Item} {start step c : Code} {t : Place} {e : Term} {i : Bool} → Clause ts start → Tests us t e → Clause vs step → Writes (Stated true b) ws c → Writes (Stated i b) (at p signs.For ∷ at q signs.Open ∷ (ts ++ at r signs.Semicolon ∷ (us ++ (vs ++ at s signs.Close ∷ ws)))) (followed start (While t e step c Done))
+  if_then : (p q r : Place) {b : Bool} {ts us : List Item} {e : Term} {c : Code} {i : Bool} → Expresses 6 ts e → Writes (Stated i b) us c → Writes (Stated i true) (at p signs.If ∷ at q signs.Open ∷ (ts ++ at r signs.Close ∷ us)) (If p e c Done Done)
+  if_else : (p q r s : Place) {b : Bool} {ts us vs : List Item} {e : Term} {c d : Code} {i : Bool} → Expresses 6 ts e → Writes (Stated i false) us c → Writes (Stated i b) vs d → Writes (Stated i b) (at p signs.If ∷ at q signs.Open ∷ (ts ++ at r signs.Close ∷ (us ++ at s signs.Else ∷ vs))) (If p e c d Done)
+  do_while : (p q r s t : Place) {b : Bool} {ts us : List Item} {x : Item} {e : Term} {c : Code} {i : Bool} → Writes (Stated true b) ts c → Expresses 6 (x ∷ us) e → Writes (Stated i false) (at p signs.Do ∷ (ts ++ at q signs.While ∷ at r signs.Open ∷ x ∷ (us ++ at s signs.Close ∷ at t signs.Semicolon ∷ []))) (Do p c x.place e Done)
+  break : (p q : Place) → Writes (Stated true false) (at p signs.Break ∷ at q signs.Semicolon ∷ []) (Leave p Break Done)
+  continue : (p q : Place) → Writes (Stated true false) (at p signs.Continue ∷ at q signs.Semicolon ∷ []) (Leave p Continue Done)
+  return : (p q : Place) {ts : List Item} {e : Term} {i : Bool} → Expresses 6 ts e → Writes (Stated i false) (at p signs.Return ∷ (ts ++ at q signs.Semicolon ∷ [])) (Leave p (Return e) Done)
 
 -- ---- files
-
--- a `return` with a literal is a `Skip`
-pub data Returns : List Item → Code → Type 0 where
-  no_return : Returns [] Done
-  return : (p q r : Place) (n : ℤ) → Returns (at p signs.Return ∷ at q (signs.Number n) ∷ at r signs.Semicolon ∷ []) (Skip p Done)
 
 -- groups, or what closes one
 pub data Gap : Type 0 where
@@ -281,7 +281,7 @@ pub data Empty : Gap → List Item → Type 0 where
 
 -- the statements of `main`, up to its closing brace, and what may follow
 pub data Body : List Item → Code → Place → Type 0 where
-  body : (p : Place) {us vs ws : List Item} {c d : Code} → Writes Listed us c → Returns vs d → Empty Gaps ws → Body (us ++ (vs ++ at p signs.RightBrace ∷ ws)) (followed c d) p
+  body : (p : Place) {us vs : List Item} {c : Code} → Writes (Listed false) us c → Empty Gaps vs → Body (us ++ at p signs.RightBrace ∷ vs) c p
 
 -- `main`
 pub data Main : List Item → Code → Place → Type 0 where

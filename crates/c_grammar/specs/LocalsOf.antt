@@ -7,7 +7,7 @@ use Rattle.fam_outer.specs.declared.faults.Place.{Place}
 use Rattle.c_grammar.specs.declared.items.Item.{Item}
 use Rattle.c_grammar.specs.Groups.{guarded_by}
 use Rattle.c_grammar.specs.Statics.{statics_by}
-use Rattle.c_grammar.specs.Grammar.{Qualifier, Unqualified, Constant, Counted, LocalDeclarator, uninitialised, initialised, from_call, Shape, Writes, more, choice, local, static_local, last_local, next_local, otherwise, elif, block, while, for, if_then, if_else, with_true, with_false, declared, Body, body, Main, main, File, Forms, file}
+use Rattle.c_grammar.specs.Grammar.{Qualifier, Unqualified, Constant, Counted, LocalDeclarator, uninitialised, initialised, from_call, Shape, Writes, more, choice, local, static_local, last_local, next_local, otherwise, elif, block, while, for, if_then, if_else, do_while, with_true, with_false, declared, Body, body, Main, main, File, Forms, file}
 
 abbrev pub local_name : {kind : Qualifier} {ts : List Item} {c : Code} → LocalDeclarator kind ts c → ℕ
 local_name (uninitialised p x) = x
@@ -33,6 +33,7 @@ locals_in gs (while p q r e s) = locals_in gs s
 locals_in gs (for p q r z a t b s) = locals_in gs s
 locals_in gs (if_then p q r e s) = locals_in gs s
 locals_in gs (if_else p q r z e s t) = locals_in gs s ++ locals_in gs t
+locals_in gs (do_while p q r z t s e) = locals_in gs s
 locals_in gs _ = []
 
 -- those of them that are static
@@ -48,6 +49,7 @@ statics_in gs (while p q r e s) = statics_in gs s
 statics_in gs (for p q r z a t b s) = statics_in gs s
 statics_in gs (if_then p q r e s) = statics_in gs s
 statics_in gs (if_else p q r z e s t) = statics_in gs s ++ statics_in gs t
+statics_in gs (do_while p q r z t s e) = statics_in gs s
 statics_in gs _ = []
 
 -- of a declaration, where it declares constants
@@ -77,7 +79,7 @@ constant_scope_in gs (elif p n s t) = constant_scope_in (with_true gs n) s ++ co
 constant_scope_in gs _ = []
 
 abbrev pub locals_of_body : {us : List Item} {c : Code} {p : Place} → Body us c p → List Declared
-locals_of_body (body p s r e) = locals_in [] s
+locals_of_body (body p s e) = locals_in [] s
 
 abbrev pub locals_of_main : {us : List Item} {c : Code} {p : Place} → Main us c p → List Declared
 locals_of_main (main q r s t u y o b) = locals_of_body b
@@ -87,7 +89,7 @@ abbrev pub locals_of : {items : List Item} {f : File} → Forms items f → List
 locals_of (file d m) = locals_of_main m
 
 abbrev pub statics_of_body : {us : List Item} {c : Code} {p : Place} → Body us c p → List Declared
-statics_of_body (body p s r e) = statics_in [] s
+statics_of_body (body p s e) = statics_in [] s
 
 abbrev pub statics_of_main : {us : List Item} {c : Code} {p : Place} → Main us c p → List Declared
 statics_of_main (main q r s t u y o b) = statics_of_body b

@@ -9,7 +9,7 @@ use Rattle.c_grammar.specs.declared.items.Item.{Item}
 use Rattle.c_grammar.specs.declared.items.Sign.{Sign}
 use Rattle.c_grammar.specs.declared.items.Sign.TheVariants as signs
 use Rattle.c_grammar.specs.Constants.{kind_behind}
-use Rattle.c_grammar.specs.Grammar.{at, Prefix, Positive, Negative, Inverse, prefix_sign, Expresses, number, name, group, prefix, loose, binary, Update, Sum, Difference, Product, Quotient, Remainder, update_sign, Count, Raise, Lower, count_sign, Callable, of_input, of_function, Changes, assignment, input_taken, compound_assignment, count_behind, count_before, Clause, no_clause, clause, Tests, no_test, test, Qualifier, Qualified, Shape, Listed, Stated, Chained, Locals, Writes, none, more, choice, local, static_local, last_local, next_local, ends, otherwise, elif, change, call, void_call, assert, skip, block, while, for, if_then, if_else, with_true, with_false, is_group, Returns, no_return, return, Declares, Vars, Gap, Gaps, GapRest, Empty, no_more, empty_section, empty_end, empty_else, empty_elif, Body, body}
+use Rattle.c_grammar.specs.Grammar.{at, Prefix, Positive, Negative, Inverse, prefix_sign, Expresses, number, name, group, prefix, loose, binary, Update, Sum, Difference, Product, Quotient, Remainder, update_sign, Count, Raise, Lower, count_sign, Callable, of_input, of_function, Changes, assignment, input_taken, compound_assignment, count_behind, count_before, Clause, no_clause, clause, Tests, no_test, test, Qualifier, Qualified, Shape, Listed, Stated, Chained, Locals, Writes, none, more, choice, local, static_local, last_local, next_local, ends, otherwise, elif, change, call, void_call, assert, skip, block, while, for, do_while, break, continue, return, if_then, if_else, with_true, with_false, is_group, Declares, Vars, Gap, Gaps, GapRest, Empty, no_more, empty_section, empty_end, empty_else, empty_elif, Body, body}
 use Rattle.c_grammar.specs.Groups.{guarded_by}
 use Rattle.c_grammar.specs.Kept.{directive_of}
 use Rattle.c_grammar.specs.Locals.{is_declaring}
@@ -138,9 +138,9 @@ pub data Stretch : (later : Bool) → List Guard → List Item → List Declared
 
 -- declarators are no stretch of their own: a type stands before them
 abbrev StretchOf : (shape : Shape) {ts : List Item} {c : Code} → List Guard → Writes shape ts c → Type 0
-StretchOf Listed {ts} gs s = Stretch false gs ts (locals_in gs s)
-StretchOf (Stated b) {ts} gs s = Stretch false gs ts (locals_in gs s)
-StretchOf Chained {ts} gs s = Stretch true gs ts (locals_in gs s)
+StretchOf (Listed i) {ts} gs s = Stretch false gs ts (locals_in gs s)
+StretchOf (Stated i b) {ts} gs s = Stretch false gs ts (locals_in gs s)
+StretchOf (Chained i) {ts} gs s = Stretch true gs ts (locals_in gs s)
 StretchOf (Locals kind) gs s = Unit {0}
 
 pub stretch_of : {shape : Shape} {ts : List Item} {c : Code} (gs : List Guard) → (s : Writes shape ts c) → StretchOf shape gs s
@@ -166,16 +166,19 @@ stretch_of gs (block p q s) = behind gs (at p signs.LeftBrace ∷ []) refl (befo
 stretch_of gs (while p q r {b} {ts} e s) = behind gs (at p signs.While ∷ at q signs.Open ∷ []) refl (behind gs ts (expression_calm e) (behind gs (at r signs.Close ∷ []) refl (stretch_of gs s)))
 stretch_of gs (for p q r z {b} {ts} {us} {vs} {ws} a t d s) =
     subst (λ (l : List Item). Stretch false gs l (locals_in gs s)) (for_is p q r z ts us vs ws) (behind gs (for_head p q r z ts us vs) (header_calm p q r z a t d) (stretch_of gs s))
+stretch_of gs (do_while p q r z t {b} {ts} {us} {x} s e) =
+    behind gs (at p signs.Do ∷ []) refl (before gs (at q signs.While ∷ at r signs.Open ∷ x ∷ (us ++ at z signs.Close ∷ at t signs.Semicolon ∷ [])) (stretch_of gs s)
+    (calm_both (x ∷ us) (at z signs.Close ∷ at t signs.Semicolon ∷ []) (expression_calm e) refl))
+stretch_of gs (break p q) = calm gs (at p signs.Break ∷ at q signs.Semicolon ∷ []) refl
+stretch_of gs (continue p q) = calm gs (at p signs.Continue ∷ at q signs.Semicolon ∷ []) refl
+stretch_of gs (return p q {ts} e) =
+    calm gs (at p signs.Return ∷ (ts ++ at q signs.Semicolon ∷ [])) (calm_both ts (at q signs.Semicolon ∷ []) (expression_calm e) refl)
 stretch_of gs (if_then p q r {b} {ts} e s) = behind gs (at p signs.If ∷ at q signs.Open ∷ []) refl (behind gs ts (expression_calm e) (behind gs (at r signs.Close ∷ []) refl (stretch_of gs s)))
 stretch_of gs (if_else p q r z {b} {ts} e s t) =
     behind gs (at p signs.If ∷ at q signs.Open ∷ []) refl (behind gs ts (expression_calm e)
     (behind gs (at r signs.Close ∷ []) refl (both gs (stretch_of gs s) (behind gs (at z signs.Else ∷ []) refl (stretch_of gs t)))))
 
 -- ---- the body of `main`
-
-return_calm : {us : List Item} {c : Code} → Returns us c → are_calm us ≡ true
-return_calm no_return = refl
-return_calm (return p q r n) = refl
 
 -- behind `main` there are groups alone
 abbrev StretchOfGap : Gap → List Guard → List Item → Type 0
@@ -190,5 +193,4 @@ stretch_of_gap gs (empty_else p q a) = else_group gs p q (stretch_of_gap gs a)
 stretch_of_gap gs (empty_elif p n a b) = elif_group gs p n (stretch_of_gap (with_true gs n) a) (stretch_of_gap (with_false gs n) b)
 
 pub stretch_of_body : {us : List Item} {c : Code} {p : Place} → (b : Body us c p) → Stretch false [] us (locals_of_body b ++ [])
-stretch_of_body (body p {us} {vs} s r e) =
-    both [] (stretch_of [] s) (behind [] vs (return_calm r) (behind [] (at p signs.RightBrace ∷ []) refl (stretch_of_gap [] e)))
+stretch_of_body (body p {us} {vs} s e) = both [] (stretch_of [] s) (behind [] (at p signs.RightBrace ∷ []) refl (stretch_of_gap [] e))

@@ -17,7 +17,8 @@ used_words =
     (codes "static", signs.Static) ∷ (codes "const", signs.Const) ∷ (codes "int", signs.Int) ∷ (codes "int32_t", signs.Int32)
     ∷ (codes "signed", signs.Signed) ∷ (codes "extern", signs.Extern) ∷ (codes "input", signs.Input) ∷ (codes "void", signs.Void)
     ∷ (codes "main", signs.Main) ∷ (codes "return", signs.Return) ∷ (codes "assert", signs.Assert) ∷ (codes "if", signs.If)
-    ∷ (codes "else", signs.Else) ∷ (codes "while", signs.While) ∷ (codes "for", signs.For) ∷ (codes "enum", signs.Enum) ∷ []
+    ∷ (codes "else", signs.Else) ∷ (codes "while", signs.While) ∷ (codes "for", signs.For) ∷ (codes "do", signs.Do) ∷ (codes "break", signs.Break)
+    ∷ (codes "continue", signs.Continue) ∷ (codes "enum", signs.Enum) ∷ []
 
 -- the sign that the subset gives a word; the other keywords of C have one sign
 abbrev pub keyword_or : Option Sign → List ℕ → Option Sign

@@ -10,7 +10,7 @@ use c_tree::Op;
 use c_words::is_keyword;
 
 /// The keywords that the subset uses, and the words that it reserves besides.
-const USED_WORDS: [(&str, Sign); 16] = [
+const USED_WORDS: [(&str, Sign); 19] = [
     ("static", Sign::Static),
     ("const", Sign::Const),
     ("int", Sign::Int),
@@ -26,6 +26,9 @@ const USED_WORDS: [(&str, Sign); 16] = [
     ("else", Sign::Else),
     ("while", Sign::While),
     ("for", Sign::For),
+    ("do", Sign::Do),
+    ("break", Sign::Break),
+    ("continue", Sign::Continue),
     ("enum", Sign::Enum),
 ];
 

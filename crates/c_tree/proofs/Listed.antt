@@ -8,7 +8,7 @@ use Rattle.c_tree.specs.declared.tree.Stmt.TheViews.{outs-Cond}
 use Rattle.std.specs.declared.vec.Vec.{Vec}
 use Rattle.std.specs.declared.alloc.Global.{Global}
 use Rattle.c_tree.specs.declared.tree.Stmt.TheOpen.{Stmt-F}
-use Rattle.c_tree.specs.Tree.{Code, Done, Assign, Input, Assert, If, While, Block, Skip, Cond, followed}
+use Rattle.c_tree.specs.Tree.{Code, Done, Assign, Input, Assert, If, While, Do, Leave, Block, Skip, Cond, followed}
 use Rattle.c_tree.specs.View.{front, code}
 use Rattle.c_tree.specs.Project.{projected, IsNumbered}
 use Rattle.c_tree.specs.Places.{places_of}
@@ -21,6 +21,8 @@ projected-followed truths (Input place target rest) b = ap (Input place target) 
 projected-followed truths (Assert place test rest) b = ap (Assert place test) (projected-followed truths rest b)
 projected-followed truths (If place test p q rest) b = ap (If place test (projected truths p) (projected truths q)) (projected-followed truths rest b)
 projected-followed truths (While place test step body rest) b = ap (While place test (projected truths step) (projected truths body)) (projected-followed truths rest b)
+projected-followed truths (Do place body at test rest) b = ap (Do place (projected truths body) at test) (projected-followed truths rest b)
+projected-followed truths (Leave place jump rest) b = ap (Leave place jump) (projected-followed truths rest b)
 projected-followed truths (Block place body rest) b = ap (Block place (projected truths body)) (projected-followed truths rest b)
 projected-followed truths (Skip place rest) b = ap (Skip place) (projected-followed truths rest b)
 projected-followed truths (Cond number p q rest) b =
@@ -34,6 +36,8 @@ places_of-followed (Input place target rest) b = ap (λ l. place ∷ l) (places_
 places_of-followed (Assert place test rest) b = ap (λ l. place ∷ l) (places_of-followed rest b)
 places_of-followed (If place test p q rest) b = simp (places_of-followed rest b, append_assoc)
 places_of-followed (While place test step body rest) b = simp (places_of-followed rest b, append_assoc)
+places_of-followed (Do place body at test rest) b = simp (places_of-followed rest b, append_assoc)
+places_of-followed (Leave place jump rest) b = ap (λ l. place ∷ l) (places_of-followed rest b)
 places_of-followed (Block place body rest) b = simp (places_of-followed rest b, append_assoc)
 places_of-followed (Skip place rest) b = ap (λ l. place ∷ l) (places_of-followed rest b)
 places_of-followed (Cond number p q rest) b = simp (places_of-followed rest b, append_assoc)
@@ -53,6 +57,8 @@ IsNumbered-opened count rest (stmt.Input place target) h = (tt, h)
 IsNumbered-opened count rest (stmt.Assert place test) h = (tt, h)
 IsNumbered-opened count rest (stmt.If place test p q) h = ((h.0, h.1, tt), h.2)
 IsNumbered-opened count rest (stmt.While place test step body) h = ((h.0, h.1, tt), h.2)
+IsNumbered-opened count rest (stmt.Do place body test_place test) h = ((h.0, tt), h.1)
+IsNumbered-opened count rest (stmt.Leave place jump) h = (tt, h)
 IsNumbered-opened count rest (stmt.Block place body) h = ((h.0, tt), h.1)
 IsNumbered-opened count rest (stmt.Skip place) h = (tt, h)
 IsNumbered-opened count rest (stmt.Cond number p q) h = ((h.0, h.1, h.2, tt), h.3)

@@ -6,7 +6,7 @@ use Rattle.c_tree.specs.declared.tree.Stmt.TheOpen as stmt
 use Rattle.c_tree.specs.declared.tree.Stmt.TheOpen.{Stmt-F}
 use Rattle.c_tree.specs.declared.tree.Stmt.TheViews.{out-Stmt}
 use Rattle.c_tree.specs.declared.tree.Stmt.TheFolds.{fold_out-Stmt, map-Stmt}
-use Rattle.c_tree.specs.Tree.{Code, Done, Assign, Input, Assert, If, While, Block, Skip, Cond, followed}
+use Rattle.c_tree.specs.Tree.{Code, Done, Assign, Input, Assert, If, While, Do, Leave, Block, Skip, Cond, followed}
 use Rattle.c_tree.specs.View.{layer, front, code}
 use Rattle.c_tree.specs.Fit.{IsCodeOf, IsPlain}
 
@@ -28,6 +28,8 @@ followed-opened next rest (stmt.Input place target) = refl
 followed-opened next rest (stmt.Assert place test) = refl
 followed-opened next rest (stmt.If place test p q) = refl
 followed-opened next rest (stmt.While place test step body) = refl
+followed-opened next rest (stmt.Do place body test_place test) = refl
+followed-opened next rest (stmt.Leave place jump) = refl
 followed-opened next rest (stmt.Block place body) = refl
 followed-opened next rest (stmt.Skip place) = refl
 followed-opened next rest (stmt.Cond number p q) = refl
@@ -42,6 +44,8 @@ followed-Done (Input place target rest) = ap (Input place target) (followed-Done
 followed-Done (Assert place test rest) = ap (Assert place test) (followed-Done rest)
 followed-Done (If place test p q rest) = ap (If place test p q) (followed-Done rest)
 followed-Done (While place test step body rest) = ap (While place test step body) (followed-Done rest)
+followed-Done (Do place body at test rest) = ap (Do place body at test) (followed-Done rest)
+followed-Done (Leave place jump rest) = ap (Leave place jump) (followed-Done rest)
 followed-Done (Block place body rest) = ap (Block place body) (followed-Done rest)
 followed-Done (Skip place rest) = ap (Skip place) (followed-Done rest)
 followed-Done (Cond number p q rest) = ap (Cond number p q) (followed-Done rest)
@@ -53,6 +57,8 @@ followed_assoc (Input place target rest) b c = ap (Input place target) (followed
 followed_assoc (Assert place test rest) b c = ap (Assert place test) (followed_assoc rest b c)
 followed_assoc (If place test p q rest) b c = ap (If place test p q) (followed_assoc rest b c)
 followed_assoc (While place test step body rest) b c = ap (While place test step body) (followed_assoc rest b c)
+followed_assoc (Do place body at test rest) b c = ap (Do place body at test) (followed_assoc rest b c)
+followed_assoc (Leave place jump rest) b c = ap (Leave place jump) (followed_assoc rest b c)
 followed_assoc (Block place body rest) b c = ap (Block place body) (followed_assoc rest b c)
 followed_assoc (Skip place rest) b c = ap (Skip place) (followed_assoc rest b c)
 followed_assoc (Cond number p q rest) b c = ap (Cond number p q) (followed_assoc rest b c)
@@ -77,7 +83,9 @@ IsCodeOf-opened count rest (stmt.Assign place target value) h = ((h.0, h.1, tt),
 IsCodeOf-opened count rest (stmt.Input place target) h = ((h.0, tt), h.1)
 IsCodeOf-opened count rest (stmt.Assert place test) h = ((h.0, tt), h.1)
 IsCodeOf-opened count rest (stmt.If place test p q) h = ((h.0, h.1, h.2, tt), h.3)
-IsCodeOf-opened count rest (stmt.While place test step body) h = ((h.0, h.1, h.2, tt), h.3)
+IsCodeOf-opened count rest (stmt.While place test step body) h = ((h.0, h.1, h.2, tt, h.4), h.3)
+IsCodeOf-opened count rest (stmt.Do place body test_place test) h = ((h.0, h.1, tt), h.2)
+IsCodeOf-opened count rest (stmt.Leave place jump) h = ((h.0, tt), h.1)
 IsCodeOf-opened count rest (stmt.Block place body) h = ((h.0, tt), h.1)
 IsCodeOf-opened count rest (stmt.Skip place) h = (tt, h)
 IsCodeOf-opened count rest (stmt.Cond number p q) h = ((h.0, h.1, tt), h.2)
@@ -92,6 +100,8 @@ IsPlain-opened rest (stmt.Input place target) h = (tt, h)
 IsPlain-opened rest (stmt.Assert place test) h = (tt, h)
 IsPlain-opened rest (stmt.If place test p q) h = ((h.0, h.1, tt), h.2)
 IsPlain-opened rest (stmt.While place test step body) h = ((h.0, h.1, tt), h.2)
+IsPlain-opened rest (stmt.Do place body test_place test) h = ((h.0, tt), h.1)
+IsPlain-opened rest (stmt.Leave place jump) h = (tt, h)
 IsPlain-opened rest (stmt.Block place body) h = ((h.0, tt), h.1)
 IsPlain-opened rest (stmt.Skip place) h = (tt, h)
 IsPlain-opened rest (stmt.Cond number p q) h = absurd h
@@ -105,7 +115,9 @@ IsCodeOf-followed count (Assign place target value rest) b h k = (h.0, h.1, IsCo
 IsCodeOf-followed count (Input place target rest) b h k = (h.0, IsCodeOf-followed count rest b h.1 k)
 IsCodeOf-followed count (Assert place test rest) b h k = (h.0, IsCodeOf-followed count rest b h.1 k)
 IsCodeOf-followed count (If place test p q rest) b h k = (h.0, h.1, h.2, IsCodeOf-followed count rest b h.3 k)
-IsCodeOf-followed count (While place test step body rest) b h k = (h.0, h.1, h.2, IsCodeOf-followed count rest b h.3 k)
+IsCodeOf-followed count (While place test step body rest) b h k = (h.0, h.1, h.2, IsCodeOf-followed count rest b h.3 k, h.4)
+IsCodeOf-followed count (Do place body at test rest) b h k = (h.0, h.1, IsCodeOf-followed count rest b h.2 k)
+IsCodeOf-followed count (Leave place jump rest) b h k = (h.0, IsCodeOf-followed count rest b h.1 k)
 IsCodeOf-followed count (Block place body rest) b h k = (h.0, IsCodeOf-followed count rest b h.1 k)
 IsCodeOf-followed count (Skip place rest) b h k = IsCodeOf-followed count rest b h k
 IsCodeOf-followed count (Cond number p q rest) b h k = (h.0, h.1, IsCodeOf-followed count rest b h.2 k)
@@ -117,6 +129,8 @@ IsPlain-followed (Input place target rest) b h k = IsPlain-followed rest b h k
 IsPlain-followed (Assert place test rest) b h k = IsPlain-followed rest b h k
 IsPlain-followed (If place test p q rest) b h k = (h.0, h.1, IsPlain-followed rest b h.2 k)
 IsPlain-followed (While place test step body rest) b h k = (h.0, h.1, IsPlain-followed rest b h.2 k)
+IsPlain-followed (Do place body at test rest) b h k = (h.0, IsPlain-followed rest b h.1 k)
+IsPlain-followed (Leave place jump rest) b h k = IsPlain-followed rest b h k
 IsPlain-followed (Block place body rest) b h k = (h.0, IsPlain-followed rest b h.1 k)
 IsPlain-followed (Skip place rest) b h k = IsPlain-followed rest b h k
 IsPlain-followed (Cond number p q rest) b h k = absurd h

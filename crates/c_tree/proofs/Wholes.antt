@@ -2,8 +2,8 @@
 use Rattle.std.proofs.Common.{◌≡◌, ℕ, ◌≤◌, max, List, [], ◌∷◌, ◌++◌, Bool, true, false, cond, sym, subst, ◌∙◌, arith, append_assoc, append-nil, length}
 use Rattle.std.specs.Prelude.{slice_index_or}
 use Rattle.fam_outer.specs.declared.faults.Place.{Place}
-use Rattle.c_tree.specs.Tree.{Code, Done, Assign, Input, Assert, If, While, Block, Skip, Cond, followed, Whole}
-use Rattle.c_tree.specs.Fit.{IsCodeOf, IsPlain}
+use Rattle.c_tree.specs.Tree.{Code, Done, Assign, Input, Assert, If, While, Do, Leave, Block, Skip, Cond, followed, Whole}
+use Rattle.c_tree.specs.Fit.{IsCodeOf, IsPlain, IsStep}
 use Rattle.c_tree.specs.Project.{projected, projected_program}
 use Rattle.c_tree.specs.Places.{places_of, program_places}
 use Rattle.c_tree.specs.Whole.{IsBeforeAll, IsRising, nesting, IsSmall, IsProgram}
@@ -52,6 +52,8 @@ places_part truths (Input place target rest) = kept (places_part truths rest)
 places_part truths (Assert place test rest) = kept (places_part truths rest)
 places_part truths (If place test p q rest) = kept (IsPartOf-append _ _ (places_part truths p) (IsPartOf-append _ _ (places_part truths q) (places_part truths rest)))
 places_part truths (While place test step body rest) = kept (IsPartOf-append _ _ (places_part truths step) (IsPartOf-append _ _ (places_part truths body) (places_part truths rest)))
+places_part truths (Do place body at test rest) = kept (IsPartOf-append _ _ (places_part truths body) (kept (places_part truths rest)))
+places_part truths (Leave place jump rest) = kept (places_part truths rest)
 places_part truths (Block place body rest) = kept (IsPartOf-append _ _ (places_part truths body) (places_part truths rest))
 places_part truths (Skip place rest) = kept (places_part truths rest)
 places_part truths (Cond number p q rest) =
@@ -66,13 +68,29 @@ IsCodeOf-cond : (count : ℕ) (b : Bool) (x y : Code) → IsCodeOf count x → I
 IsCodeOf-cond count true x y g h = g
 IsCodeOf-cond count false x y g h = h
 
+-- a step stays as it is
+IsStep-projected : (truths : List Bool) (a : Code) → IsStep a → IsStep (projected truths a)
+IsStep-projected truths Done h = tt
+IsStep-projected truths (Assign place target value rest) h = IsStep-projected truths rest h
+IsStep-projected truths (Input place target rest) h = IsStep-projected truths rest h
+IsStep-projected truths (Assert place test rest) h = absurd h
+IsStep-projected truths (If place test p q rest) h = absurd h
+IsStep-projected truths (While place test step body rest) h = absurd h
+IsStep-projected truths (Do place body at test rest) h = absurd h
+IsStep-projected truths (Leave place jump rest) h = absurd h
+IsStep-projected truths (Block place body rest) h = absurd h
+IsStep-projected truths (Skip place rest) h = absurd h
+IsStep-projected truths (Cond number p q rest) h = absurd h
+
 IsCodeOf-projected : (count : ℕ) (truths : List Bool) (a : Code) → IsCodeOf count a → IsCodeOf count (projected truths a)
 IsCodeOf-projected count truths Done h = tt
 IsCodeOf-projected count truths (Assign place target value rest) h = (h.0, h.1, IsCodeOf-projected count truths rest h.2)
 IsCodeOf-projected count truths (Input place target rest) h = (h.0, IsCodeOf-projected count truths rest h.1)
 IsCodeOf-projected count truths (Assert place test rest) h = (h.0, IsCodeOf-projected count truths rest h.1)
 IsCodeOf-projected count truths (If place test p q rest) h = (h.0, IsCodeOf-projected count truths p h.1, IsCodeOf-projected count truths q h.2, IsCodeOf-projected count truths rest h.3)
-IsCodeOf-projected count truths (While place test step body rest) h = (h.0, IsCodeOf-projected count truths step h.1, IsCodeOf-projected count truths body h.2, IsCodeOf-projected count truths rest h.3)
+IsCodeOf-projected count truths (While place test step body rest) h = (h.0, IsCodeOf-projected count truths step h.1, IsCodeOf-projected count truths body h.2, IsCodeOf-projected count truths rest h.3, IsStep-projected truths step h.4)
+IsCodeOf-projected count truths (Do place body at test rest) h = (h.0, IsCodeOf-projected count truths body h.1, IsCodeOf-projected count truths rest h.2)
+IsCodeOf-projected count truths (Leave place jump rest) h = (h.0, IsCodeOf-projected count truths rest h.1)
 IsCodeOf-projected count truths (Block place body rest) h = (IsCodeOf-projected count truths body h.0, IsCodeOf-projected count truths rest h.1)
 IsCodeOf-projected count truths (Skip place rest) h = IsCodeOf-projected count truths rest h
 IsCodeOf-projected count truths (Cond number p q rest) h =
@@ -91,6 +109,8 @@ IsPlain-projected truths (Input place target rest) = IsPlain-projected truths re
 IsPlain-projected truths (Assert place test rest) = IsPlain-projected truths rest
 IsPlain-projected truths (If place test p q rest) = (IsPlain-projected truths p, IsPlain-projected truths q, IsPlain-projected truths rest)
 IsPlain-projected truths (While place test step body rest) = (IsPlain-projected truths step, IsPlain-projected truths body, IsPlain-projected truths rest)
+IsPlain-projected truths (Do place body at test rest) = (IsPlain-projected truths body, IsPlain-projected truths rest)
+IsPlain-projected truths (Leave place jump rest) = IsPlain-projected truths rest
 IsPlain-projected truths (Block place body rest) = (IsPlain-projected truths body, IsPlain-projected truths rest)
 IsPlain-projected truths (Skip place rest) = IsPlain-projected truths rest
 IsPlain-projected truths (Cond number p q rest) =
@@ -105,6 +125,8 @@ nesting-followed (Input place target rest) b = nesting-followed rest b
 nesting-followed (Assert place test rest) b = nesting-followed rest b
 nesting-followed (If place test p q rest) b = omega (arith, nesting-followed rest b)
 nesting-followed (While place test step body rest) b = omega (arith, nesting-followed rest b)
+nesting-followed (Do place body at test rest) b = omega (arith, nesting-followed rest b)
+nesting-followed (Leave place jump rest) b = nesting-followed rest b
 nesting-followed (Block place body rest) b = omega (arith, nesting-followed rest b)
 nesting-followed (Skip place rest) b = nesting-followed rest b
 nesting-followed (Cond number p q rest) b = omega (arith, nesting-followed rest b)
@@ -120,6 +142,8 @@ nesting-projected truths (Input place target rest) = nesting-projected truths re
 nesting-projected truths (Assert place test rest) = nesting-projected truths rest
 nesting-projected truths (If place test p q rest) = omega (arith, nesting-projected truths p, nesting-projected truths q, nesting-projected truths rest)
 nesting-projected truths (While place test step body rest) = omega (arith, nesting-projected truths step, nesting-projected truths body, nesting-projected truths rest)
+nesting-projected truths (Do place body at test rest) = omega (arith, nesting-projected truths body, nesting-projected truths rest)
+nesting-projected truths (Leave place jump rest) = nesting-projected truths rest
 nesting-projected truths (Block place body rest) = omega (arith, nesting-projected truths body, nesting-projected truths rest)
 nesting-projected truths (Skip place rest) = nesting-projected truths rest
 nesting-projected truths (Cond number p q rest) =
@@ -139,6 +163,8 @@ IsSmall-followed (Input place target rest) b h k = IsSmall-followed rest b h k
 IsSmall-followed (Assert place test rest) b h k = (h.0, IsSmall-followed rest b h.1 k)
 IsSmall-followed (If place test p q rest) b h k = (h.0, h.1, h.2, IsSmall-followed rest b h.3 k)
 IsSmall-followed (While place test step body rest) b h k = (h.0, h.1, h.2, IsSmall-followed rest b h.3 k)
+IsSmall-followed (Do place body at test rest) b h k = (h.0, h.1, IsSmall-followed rest b h.2 k)
+IsSmall-followed (Leave place jump rest) b h k = (h.0, IsSmall-followed rest b h.1 k)
 IsSmall-followed (Block place body rest) b h k = (h.0, IsSmall-followed rest b h.1 k)
 IsSmall-followed (Skip place rest) b h k = IsSmall-followed rest b h k
 IsSmall-followed (Cond number p q rest) b h k = (h.0, h.1, IsSmall-followed rest b h.2 k)
@@ -154,6 +180,8 @@ IsSmall-projected truths (Input place target rest) h = IsSmall-projected truths 
 IsSmall-projected truths (Assert place test rest) h = (h.0, IsSmall-projected truths rest h.1)
 IsSmall-projected truths (If place test p q rest) h = (h.0, IsSmall-projected truths p h.1, IsSmall-projected truths q h.2, IsSmall-projected truths rest h.3)
 IsSmall-projected truths (While place test step body rest) h = (h.0, IsSmall-projected truths step h.1, IsSmall-projected truths body h.2, IsSmall-projected truths rest h.3)
+IsSmall-projected truths (Do place body at test rest) h = (h.0, IsSmall-projected truths body h.1, IsSmall-projected truths rest h.2)
+IsSmall-projected truths (Leave place jump rest) h = (h.0, IsSmall-projected truths rest h.1)
 IsSmall-projected truths (Block place body rest) h = (IsSmall-projected truths body h.0, IsSmall-projected truths rest h.1)
 IsSmall-projected truths (Skip place rest) h = IsSmall-projected truths rest h
 IsSmall-projected truths (Cond number p q rest) h =

@@ -3,7 +3,7 @@ use Rattle.std.specs.Prelude.{ℕ, ℤ, ◌<◌, ◌+◌, ◌==◌, ◌&&◌, Bo
 use Rattle.std.specs.List.{All, list_all}
 use Rattle.c_tree.specs.declared.lists.Declared.{Declared}
 use Rattle.c_tree.specs.declared.lists.Guard.{Guard}
-use Rattle.c_tree.specs.Tree.{Code, Done, Assign, Input, Assert, If, While, Block, Skip, Cond, followed, Whole}
+use Rattle.c_tree.specs.Tree.{Code, Done, Assign, Input, Assert, If, While, Do, Leave, Block, Skip, Cond, followed, Whole}
 
 -- each choice is replaced by the statements of one side
 abbrev pub projected : List Bool → Code → Code
@@ -13,6 +13,8 @@ projected truths (Input place target rest) = Input place target (projected truth
 projected truths (Assert place test rest) = Assert place test (projected truths rest)
 projected truths (If place test p q rest) = If place test (projected truths p) (projected truths q) (projected truths rest)
 projected truths (While place test step body rest) = While place test (projected truths step) (projected truths body) (projected truths rest)
+projected truths (Do place body at test rest) = Do place (projected truths body) at test (projected truths rest)
+projected truths (Leave place jump rest) = Leave place jump (projected truths rest)
 projected truths (Block place body rest) = Block place (projected truths body) (projected truths rest)
 projected truths (Skip place rest) = Skip place (projected truths rest)
 projected truths (Cond number p q rest) =
@@ -26,6 +28,8 @@ IsNumbered count (Input place target rest) = IsNumbered count rest
 IsNumbered count (Assert place test rest) = IsNumbered count rest
 IsNumbered count (If place test p q rest) = IsNumbered count p × IsNumbered count q × IsNumbered count rest
 IsNumbered count (While place test step body rest) = IsNumbered count step × IsNumbered count body × IsNumbered count rest
+IsNumbered count (Do place body at test rest) = IsNumbered count body × IsNumbered count rest
+IsNumbered count (Leave place jump rest) = IsNumbered count rest
 IsNumbered count (Block place body rest) = IsNumbered count body × IsNumbered count rest
 IsNumbered count (Skip place rest) = IsNumbered count rest
 IsNumbered count (Cond number p q rest) = (number < count) × IsNumbered count p × IsNumbered count q × IsNumbered count rest

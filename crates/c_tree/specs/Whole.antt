@@ -3,7 +3,7 @@ use Rattle.std.specs.Prelude.{◌≡◌, ℕ, ◌+◌, ◌≤◌, ◌<◌, max, 
 use Rattle.std.specs.List.{All}
 use Rattle.fam_outer.specs.declared.faults.Place.{Place}
 use Rattle.fam_outer.specs.Places.{is_before}
-use Rattle.c_tree.specs.Tree.{Term, Number, Var, Neg, Not, Binary, Code, Done, Assign, Input, Assert, If, While, Block, Skip, Cond, Whole}
+use Rattle.c_tree.specs.Tree.{Term, Number, Var, Neg, Not, Binary, Jump, Break, Continue, Return, Code, Done, Assign, Input, Assert, If, While, Do, Leave, Block, Skip, Cond, Whole}
 use Rattle.c_tree.specs.Value.{IsInt}
 use Rattle.c_tree.specs.declared.lists.Declared.{Declared}
 use Rattle.c_tree.specs.Fit.{IsCodeOf, IsPlain}
@@ -35,9 +35,16 @@ nesting (Input place target rest) = nesting rest
 nesting (Assert place test rest) = nesting rest
 nesting (If place test p q rest) = max (max (nesting p) (nesting q) + 1) (nesting rest)
 nesting (While place test step body rest) = max (max (nesting step) (nesting body) + 1) (nesting rest)
+nesting (Do place body at test rest) = max (nesting body + 1) (nesting rest)
+nesting (Leave place jump rest) = nesting rest
 nesting (Block place body rest) = max (nesting body + 1) (nesting rest)
 nesting (Skip place rest) = nesting rest
 nesting (Cond number p q rest) = max (max (nesting p) (nesting q) + 1) (nesting rest)
+
+abbrev pub IsSmallJump : Jump → Type 0
+IsSmallJump Break = Unit {0}
+IsSmallJump Continue = Unit {0}
+IsSmallJump (Return e) = operators e ≤ 64
 
 -- the expressions are small
 abbrev pub IsSmall : Code → Type 0
@@ -47,6 +54,8 @@ IsSmall (Input place target rest) = IsSmall rest
 IsSmall (Assert place test rest) = (operators test ≤ 64) × IsSmall rest
 IsSmall (If place test p q rest) = (operators test ≤ 64) × IsSmall p × IsSmall q × IsSmall rest
 IsSmall (While place test step body rest) = (operators test ≤ 64) × IsSmall step × IsSmall body × IsSmall rest
+IsSmall (Do place body at test rest) = (operators test ≤ 64) × IsSmall body × IsSmall rest
+IsSmall (Leave place jump rest) = IsSmallJump jump × IsSmall rest
 IsSmall (Block place body rest) = IsSmall body × IsSmall rest
 IsSmall (Skip place rest) = IsSmall rest
 IsSmall (Cond number p q rest) = IsSmall p × IsSmall q × IsSmall rest

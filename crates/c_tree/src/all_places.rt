@@ -40,6 +40,7 @@ fn places_of_stmt(s: &Stmt, out: &mut Vec<Place>) -> Result<(), NoMemory>
         Stmt::Assign { place, .. }
         | Stmt::Input { place, .. }
         | Stmt::Assert { place, .. }
+        | Stmt::Leave { place, .. }
         | Stmt::Skip { place } => {
             out.push(*place)?;
             Ok(())
@@ -58,6 +59,17 @@ fn places_of_stmt(s: &Stmt, out: &mut Vec<Place>) -> Result<(), NoMemory>
             out.push(*place)?;
             places_of_list(step, out)?;
             places_of_list(body, out)
+        }
+        Stmt::Do {
+            place,
+            body,
+            test_place,
+            ..
+        } => {
+            out.push(*place)?;
+            places_of_list(body, out)?;
+            out.push(*test_place)?;
+            Ok(())
         }
         Stmt::Block { place, body } => {
             out.push(*place)?;

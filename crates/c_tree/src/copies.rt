@@ -2,9 +2,9 @@
 #![tactic(auto)]
 
 ghost use Rattle.std.specs.Prelude.{◌≡◌, IfOk};
-ghost use Rattle.c_tree.specs.View.{term, front, code, whole};
+ghost use Rattle.c_tree.specs.View.{term, jump_of, front, code, whole};
 
-use crate::tree::{Expr, Program, Stmt};
+use crate::tree::{Expr, Jump, Program, Stmt};
 use fam_outer::NoMemory;
 use std::alloc::Global;
 
@@ -28,6 +28,17 @@ pub fn copy_expr(alloc: Global, e: &Expr) -> Result<Expr, NoMemory>
             let b = copy_expr(alloc, b)?;
             Ok(Expr::Binary(*op, Box::new(alloc, a)?, Box::new(alloc, b)?))
         }
+    }
+}
+
+/// A copy of a jump.
+pub fn copy_jump(alloc: Global, jump: &Jump) -> Result<Jump, NoMemory>
+    ensures { IfOk result (λ made. jump_of made ≡ jump_of jump.now) }
+{
+    match jump {
+        Jump::Break => Ok(Jump::Break),
+        Jump::Continue => Ok(Jump::Continue),
+        Jump::Return(e) => Ok(Jump::Return(copy_expr(alloc, e)?)),
     }
 }
 
@@ -86,6 +97,25 @@ pub fn copy_stmt(alloc: Global, s: &Stmt) -> Result<Stmt, NoMemory>
                 body,
             })
         }
+        Stmt::Do {
+            place,
+            body,
+            test_place,
+            test,
+        } => {
+            let body = copy_list(alloc, body)?;
+            let test = copy_expr(alloc, test)?;
+            Ok(Stmt::Do {
+                place: *place,
+                body,
+                test_place: *test_place,
+                test,
+            })
+        }
+        Stmt::Leave { place, jump } => Ok(Stmt::Leave {
+            place: *place,
+            jump: copy_jump(alloc, jump)?,
+        }),
         Stmt::Block { place, body } => {
             let body = copy_list(alloc, body)?;
             Ok(Stmt::Block {

@@ -14,7 +14,7 @@ pub mod projection;
 pub mod tree;
 
 pub use all_places::places;
-pub use copies::{copy_expr, copy_list, copy_stmt};
+pub use copies::{copy_expr, copy_jump, copy_list, copy_stmt};
 pub use lists::{Declarations, Declared, Guard, Guards, Names};
 pub use projection::{project, start_values};
-pub use tree::{Expr, Kind, Mode, Op, Program, Stmt};
+pub use tree::{Expr, Jump, Kind, Mode, Op, Program, Stmt};

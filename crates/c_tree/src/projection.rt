@@ -111,9 +111,11 @@ fn project_stmt(
         ≡ followed (code out.old.items) (projected truths.now (front s.now Done))) }
 {
     match s {
-        Stmt::Assign { .. } | Stmt::Input { .. } | Stmt::Assert { .. } | Stmt::Skip { .. } => {
-            push_stmt(out, copy_stmt(alloc, s)?)
-        }
+        Stmt::Assign { .. }
+        | Stmt::Input { .. }
+        | Stmt::Assert { .. }
+        | Stmt::Leave { .. }
+        | Stmt::Skip { .. } => push_stmt(out, copy_stmt(alloc, s)?),
         Stmt::If {
             place,
             test,
@@ -149,6 +151,23 @@ fn project_stmt(
                 test,
                 step: made_step,
                 body: made_body,
+            };
+            push_stmt(out, made)
+        }
+        Stmt::Do {
+            place,
+            body,
+            test_place,
+            test,
+        } => {
+            let mut made_body = Vec::new(alloc);
+            project_list(alloc, body, truths, &mut made_body)?;
+            let test = copy_expr(alloc, test)?;
+            let made = Stmt::Do {
+                place: *place,
+                body: made_body,
+                test_place: *test_place,
+                test,
             };
             push_stmt(out, made)
         }

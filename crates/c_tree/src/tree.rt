@@ -33,9 +33,19 @@ pub enum Expr {
     Binary(Op, Box<Expr>, Box<Expr>),
 }
 
+/// Where a jump leads (C11 6.8.6): behind the loop that it stands in, on to that loop's step or
+/// test, or to the end of the program, where the value is computed first.
+#[derive(Debug, Drop)]
+pub enum Jump {
+    Break,
+    Continue,
+    Return(Expr),
+}
+
 /// A statement. Its place is that of its first token. `While` does its body, and then its step,
 /// while its test is not 0; `step` is that of a `for`, whose place is that of its test, and empty
-/// in a `while`. `Cond` is a section of groups: `yes` where the condition of this number is true,
+/// in a `while`. `Do` does its body first, and again while its test is not 0, which has a place of
+/// its own: that of its first token. `Leave` is a jump. `Cond` is a section of groups: `yes` where the condition of this number is true,
 /// else `no`.
 #[derive(Debug, Drop)]
 pub enum Stmt {
@@ -63,6 +73,16 @@ pub enum Stmt {
         test: Expr,
         step: Vec<Stmt>,
         body: Vec<Stmt>,
+    },
+    Do {
+        place: Place,
+        body: Vec<Stmt>,
+        test_place: Place,
+        test: Expr,
+    },
+    Leave {
+        place: Place,
+        jump: Jump,
     },
     Block {
         place: Place,

@@ -46,9 +46,11 @@ fn push_loops_of(s: &Stmt, out: &mut Vec<Place>) -> Result<(), NoMemory>
     ensures { OnOk result (out.new.items ≡ out.old.items ++ places_of (front s.now Done)) }
 {
     match s {
-        Stmt::Assign { .. } | Stmt::Input { .. } | Stmt::Assert { .. } | Stmt::Skip { .. } => {
-            Ok(())
-        }
+        Stmt::Assign { .. }
+        | Stmt::Input { .. }
+        | Stmt::Assert { .. }
+        | Stmt::Leave { .. }
+        | Stmt::Skip { .. } => Ok(()),
         Stmt::If { yes, no, .. } | Stmt::Cond { yes, no, .. } => {
             push_loops(yes, out)?;
             push_loops(no, out)
@@ -61,6 +63,10 @@ fn push_loops_of(s: &Stmt, out: &mut Vec<Place>) -> Result<(), NoMemory>
         } => {
             out.push(*place)?;
             push_loops(step, out)?;
+            push_loops(body, out)
+        }
+        Stmt::Do { place, body, .. } => {
+            out.push(*place)?;
             push_loops(body, out)
         }
         Stmt::Block { body, .. } => push_loops(body, out),

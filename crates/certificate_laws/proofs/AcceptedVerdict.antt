@@ -26,6 +26,8 @@ use Rattle.leaf_domain.specs.Soundness.{TransferAnswers}
 use Rattle.plain_analysis.specs.declared.options.Options.{Options}
 use Rattle.plain_analysis.specs.Places.{is_same_place, entry_in, at_of, alarm_of, alarm_by, may_stop}
 use Rattle.plain_analysis.specs.Statements.{Entry, passed, entries_by, final_heads}
+use Rattle.plain_analysis.specs.Ways.{enter, end_of}
+use Rattle.plain_analysis.proofs.Kept.{IsLeaf, AreLeaves, enter_leaves}
 use Rattle.plain_analysis.proofs.Located.{listed}
 use Rattle.plain_analysis.proofs.Nothing.{nothing_value}
 use Rattle.merged_findings.specs.Merged.{IsTreeWhere}
@@ -76,10 +78,10 @@ module _ (M : LeafMeaning) (laws : LeafLaws M) (transfer : (m : Mode) → Transf
   d = M.start q.start
 
   abbrev ts : List Turn
-  ts = turns_by M o.mode (final_heads M o) q.body d
+  ts = turns_by M o.mode (final_heads M o) q.body (enter d)
 
   abbrev es : List Entry
-  es = entries_by M o.mode (final_heads M o) q.body d
+  es = entries_by M o.mode (final_heads M o) q.body (enter d)
 
   -- the leaf at a place in the analysis of the variant
   abbrev F : Place → LeafValue
@@ -166,29 +168,32 @@ module _ (M : LeafMeaning) (laws : LeafLaws M) (transfer : (m : Mode) → Transf
       (all_right_here model atoms values valid F (trees_at (loop_places p.body) h.places) h.invariants h.loops_are leaves_below leaves_there)
       (met.0, met.1, met.2 ∙ t.2, met.3)
 
+  begun : AreLeaves M d.variables (enter d)
+  begun = let self : IsLeaf M d.variables d = record { valid = start_valid; count = refl } in enter_leaves M laws d.variables d self
+
   abbrev IsGoodHere : Turn → Type 0
   IsGoodHere t = IsGood M laws o (transfer o.mode) joins d.variables t
 
   good : AllByRecursion IsGoodHere ts
-  good = good_turns M laws o (transfer o.mode) joins q.body d start_valid code
+  good = good_turns M laws o (transfer o.mode) joins d.variables q.body (enter d) begun code
 
   heads : AllByRecursion (IsFoundIn M o.mode (final_heads M o) es) ts
-  heads = heads_found M o.mode (final_heads M o) es q.body d (listed M o.mode (final_heads M o) q d plain_body variant.rising)
+  heads = heads_found M o.mode (final_heads M o) es q.body (enter d) (listed M o.mode (final_heads M o) q d plain_body variant.rising)
 
   turn_in : (t : Turn) → IsIn t ts → IsIn t.place (loop_places p.body)
   turn_in t i =
       in_more t.place (loop_places q.body) (loop_places p.body) (loops_projected (truths_of conditions v) p.body)
-      (subst (IsIn t.place) (turns_placed M o.mode (final_heads M o) q.body d plain_body) (in_map turn_place t ts i))
+      (subst (IsIn t.place) (turns_placed M o.mode (final_heads M o) q.body (enter d) plain_body) (in_map turn_place t ts i))
 
   given_turn : (t : Turn) → IsIn t ts → g t.place ≡ t.head
   given_turn t i =
       let k : IsGoodHere t = one_of_all IsGoodHere t ts good i in
       let found : IsFoundIn M o.mode (final_heads M o) es t = one_of_all (IsFoundIn M o.mode (final_heads M o) es) t ts heads i in
-      let head : F t.place ≡ t.head = found (if is_same_place q.end t.place then passed M o.mode (final_heads M o) q.body d else nothing_of d.variables) in
-      given_there t.place (turn_in t i) (subst M.valid (sym head) k.valid) (ap (λ (x : LeafValue). x.variables) head ∙ (k.count ∙ count)) ∙ head
+      let head : F t.place ≡ t.head = found (if is_same_place q.end t.place then end_of M (passed M o.mode (final_heads M o) q.body (enter d)) else nothing_of d.variables) in
+      given_there t.place (turn_in t i) (subst M.valid (sym head) k.head.valid) (ap (λ (x : LeafValue). x.variables) head ∙ (k.head.count ∙ count)) ∙ head
 
-  same : IsSame M o.mode g (final_heads M o) q.body d
-  same = same_pass M o.mode g (final_heads M o) q.body d (all_by_one (λ (t : Turn). g t.place ≡ t.head) ts given_turn)
+  same : IsSame M o.mode g (final_heads M o) q.body (enter d)
+  same = same_pass M o.mode g (final_heads M o) q.body (enter d) (all_by_one (λ (t : Turn). g t.place ≡ t.head) ts given_turn)
 
   -- ---- loops
 
@@ -199,7 +204,7 @@ module _ (M : LeafMeaning) (laws : LeafLaws M) (transfer : (m : Mode) → Transf
 
   pub inductive : (x : Place) → is_inductive M p conditions atoms c x values ≡ true
   inductive x =
-      ap (λ m. inductive_in M (turns_by M m (placed M o.mode g (final_heads M o)) q.body d) x) h.read.mode_is
+      ap (λ m. inductive_in M (turns_by M m (placed M o.mode g (final_heads M o)) q.body (enter d)) x) h.read.mode_is
       ∙ (ap (λ (l : List Turn). inductive_in M l x) same.turns ∙ all_inductive ts good x)
 
   -- ---- stops

@@ -1,10 +1,10 @@
 -- The leaves of an analysis are over the variables of the program.
-use Rattle.std.proofs.Common.{◌≡◌, inl, inr, ℕ, ◌≤◌, ◌<◌, Bool, true, false, List, [], ◌∷◌, ◌++◌, length, refl, sym, subst, ◌∙◌}
+use Rattle.std.proofs.Common.{◌≡◌, inl, inr, ℕ, ◌≤◌, Bool, true, false, List, [], ◌∷◌, length, refl, sym, subst, ◌∙◌}
 use Rattle.std.specs.Prelude.{if◌then◌else◌, Some}
 use Rattle.std.specs.List.{AllByRecursion}
 use Rattle.fam_outer.specs.declared.faults.Place.{Place}
-use Rattle.c_tree.specs.Tree.{Term, Code, Done, Assign, Input, Assert, If, While, Block, Skip, Cond, Whole}
-use Rattle.c_tree.specs.Fit.{IsTermOf, IsCodeOf}
+use Rattle.c_tree.specs.Tree.{Code, Done, Assign, Input, Assert, If, While, Do, Leave, Block, Skip, Cond, Whole}
+use Rattle.c_tree.specs.Fit.{IsCodeOf}
 use Rattle.c_tree.specs.Project.{projected_start}
 use Rattle.c_tree.specs.Whole.{IsProgram}
 use Rattle.c_tree.proofs.Starts.{length-start, ints-start}
@@ -14,15 +14,16 @@ use Rattle.cpp_conditions.specs.Propositions.{true_on}
 use Rattle.cpp_conditions.specs.View.{formula}
 use Rattle.decision_tree.specs.Plain.{Plain, leaf, node, HasLeaf}
 use Rattle.leaf_domain.specs.Leaves.{LeafValue, LeafMeaning, LeafLaws, IsLeafLike, nothing_of}
-use Rattle.leaf_domain.specs.Transfer.{assumed, assigned, forgotten}
-use Rattle.leaf_domain.specs.Soundness.{Suits, TransferAnswers}
-use Rattle.leaf_domain.proofs.Answered.{answers_self, answers_then}
+use Rattle.leaf_domain.specs.Transfer.{assumed}
+use Rattle.leaf_domain.specs.Soundness.{TransferAnswers}
 use Rattle.plain_analysis.specs.declared.options.Options.{Options}
 use Rattle.plain_analysis.specs.Loops.{final_leaf}
 use Rattle.plain_analysis.specs.Places.{is_same_place, entry_in, leaf_or, at_of}
-use Rattle.plain_analysis.specs.Statements.{Entry, after_of, lap_of, entries_of}
-use Rattle.plain_analysis.proofs.JoinLemmas.{join_answer}
-use Rattle.plain_analysis.proofs.Recursion.{after_answers, final_of_code}
+use Rattle.plain_analysis.specs.Stated.{ArePartsOf}
+use Rattle.plain_analysis.specs.Statements.{LoopParts, TestFirst, TestLast, Entry, after_of, lap_of, entries_of}
+use Rattle.plain_analysis.specs.Ways.{Ways, onto, enter, end_of}
+use Rattle.plain_analysis.proofs.Kept.{IsLeaf, AreLeaves, like, nothing_leaf, join_leaf, onto_leaves, enter_leaves, going_on_leaf, joined_leaf, loop_leaves, assumed_leaf, assigned_leaf, forgotten_leaf, leave_kept}
+use Rattle.plain_analysis.proofs.Recursion.{final_is_leaf, lap_keeps, body_answers, after_answers}
 use Rattle.merged_findings.specs.Merged.{IsTreeWhere}
 use Rattle.lifted_analysis.specs.Promises.{truths_of, variant_at, begin_at, leaf_at}
 use Rattle.certificate_laws.specs.Written.{AllLeaves, IsLeafOver}
@@ -30,74 +31,68 @@ use Rattle.certificate_laws.proofs.Trees.{all_both}
 
 -- ---- the leaves with which statements are entered
 
-module _ (M : LeafMeaning) (laws : LeafLaws M) (o : Options) (A : TransferAnswers M o.mode) (u : LeafValue) where
-  -- the leaf is of the kind, over the variables of the first
-  abbrev IsOver : LeafValue → Type 0
-  IsOver v = IsLeafLike M u v
-
-  suits : (e : Term) (v : LeafValue) → IsOver v → IsTermOf u.variables e → Suits M e v
-  suits e v a t = record { valid = a.valid; term = subst (λ m. IsTermOf m e) (sym a.same) t }
-
-  code_over : (c : Code) (v : LeafValue) → IsOver v → IsCodeOf u.variables c → IsCodeOf v.variables c
-  code_over c v a n = subst (λ m. IsCodeOf m c) (sym a.same) n
-
-  term_over : (e : Term) (v : LeafValue) → IsOver v → IsTermOf u.variables e → IsTermOf v.variables e
-  term_over e v a t = subst (λ m. IsTermOf m e) (sym a.same) t
-
-  variable_over : (x : ℕ) (v : LeafValue) → IsOver v → x < u.variables → x < v.variables
-  variable_over x v a l = subst (λ m. x < m) (sym a.same) l
-
-  assumed_over : (e : Term) (want : Bool) (v : LeafValue) → IsOver v → IsTermOf u.variables e → IsOver (assumed M o.mode e want v)
-  assumed_over e want v a t = answers_then u v (assumed M o.mode e want v) a (A.assumed_answers e want v (suits e v a t))
-
-  after_over : (c : Code) (v : LeafValue) → IsOver v → IsCodeOf u.variables c → IsOver (after_of M o c v)
-  after_over c v a n = answers_then u v (after_of M o c v) a (after_answers M laws o A c v a.valid (code_over c v a n))
-
+module _ (M : LeafMeaning) (laws : LeafLaws M) (o : Options) (A : TransferAnswers M o.mode) (n : ℕ) where
   abbrev IsEntryOver : Entry → Type 0
-  IsEntryOver e = IsOver e.leaf
+  IsEntryOver e = IsLeaf M n e.leaf
 
-  entries_over : (c : Code) (v : LeafValue) → IsOver v → IsCodeOf u.variables c → AllByRecursion IsEntryOver (entries_of M o c v)
-  entries_over Done v a n = tt
-  entries_over (Assign place x e rest) v a n =
-      (a, entries_over rest (assigned M o.mode x e v) (answers_then u v (assigned M o.mode x e v) a (A.assigned_answers x e v (variable_over x v a n.0) (suits e v a n.1))) n.2)
-  entries_over (Input place x rest) v a n =
-      (a, entries_over rest (forgotten M x v) (answers_then u v (forgotten M x v) a (A.forgotten_answers x v (variable_over x v a n.0) a.valid)) n.1)
-  entries_over (Assert place e rest) v a n = (a, entries_over rest (assumed M o.mode e true v) (assumed_over e true v a n.0) n.1)
-  entries_over (If place e p q rest) v a n =
-      let yes = assumed M o.mode e true v in
-      let no = assumed M o.mode e false v in
-      let t = assumed_over e true v a n.0 in
-      let f = assumed_over e false v a n.0 in
-      let w = M.join (after_of M o p yes) (after_of M o q no) in
-      let j = join_answer M laws u (after_of M o p yes) (after_of M o q no) (after_over p yes t n.1) (after_over q no f n.2) in
-      (a, all_both IsEntryOver (entries_of M o p yes) (entries_of M o q no ++ entries_of M o rest w) (entries_over p yes t n.1) (all_both IsEntryOver (entries_of M o q no) (entries_of M o rest w) (entries_over q no f n.2) (entries_over rest w j n.3)))
-  entries_over (While place e step body rest) v a n =
-      let x = final_leaf M o e (lap_of M o step body) v in
-      let i = answers_then u v x a (final_of_code M laws o A e step body v a.valid (term_over e v a n.0) (code_over step v a n.1) (code_over body v a n.2)) in
-      let yes = assumed M o.mode e true x in
-      let no = assumed M o.mode e false x in
-      let t = assumed_over e true x i n.0 in
-      let f = assumed_over e false x i n.0 in
-      let y = after_of M o body yes in
-      let es = entries_of M o step y in
-      let eb = entries_of M o body yes in
-      let er = entries_of M o rest no in
-      (i, all_both IsEntryOver es (eb ++ er) (entries_over step y (after_over body yes t n.2) n.1) (all_both IsEntryOver eb er (entries_over body yes t n.2) (entries_over rest no f n.3)))
-  entries_over (Block place body rest) v a n =
-      let w = after_of M o body v in
-      (a, all_both IsEntryOver (entries_of M o body v) (entries_of M o rest w) (entries_over body v a n.0) (entries_over rest w (after_over body v a n.0) n.1))
-  entries_over (Skip place rest) v a n = (a, entries_over rest v a n)
-  entries_over (Cond number p q rest) v a n = entries_over rest v a n.2
+  head_over : (l : LoopParts) (v : LeafValue) → IsLeaf M n v → ArePartsOf n l → IsLeaf M n (final_leaf M o (lap_of M o l) v)
+  head_over l v h t = final_is_leaf M laws n o (lap_of M o l) (lap_keeps M laws o A n l t) v h
 
-  found_over : (es : List Entry) (place : Place) (v : LeafValue) → AllByRecursion IsEntryOver es → IsOver v → IsOver (leaf_or v (entry_in es place))
+  entries_over : (c : Code) (w : Ways) → AreLeaves M n w → IsCodeOf n c → AllByRecursion IsEntryOver (entries_of M o c w)
+  entries_over Done w h t = tt
+  entries_over (Assign place x e rest) w h t =
+      (h.behind, entries_over rest _ (onto_leaves M laws n w _ h (assigned_leaf M laws o.mode A n x e w.behind h.behind t.0 t.1)) t.2)
+  entries_over (Input place x rest) w h t =
+      (h.behind, entries_over rest _ (onto_leaves M laws n w _ h (forgotten_leaf M laws o.mode A n x w.behind h.behind t.0)) t.1)
+  entries_over (Assert place e rest) w h t =
+      (h.behind, entries_over rest _ (onto_leaves M laws n w _ h (assumed_leaf M laws o.mode A n e true w.behind h.behind t.0)) t.1)
+  entries_over (If place e p q rest) w h t =
+      let yes = onto w (assumed M o.mode e true w.behind) in
+      let yes_in = onto_leaves M laws n w _ h (assumed_leaf M laws o.mode A n e true w.behind h.behind t.0) in
+      let a = after_answers M laws o A n p yes yes_in t.1 in
+      let no = onto (after_of M o p yes) (assumed M o.mode e false w.behind) in
+      let no_in = onto_leaves M laws n _ _ a (assumed_leaf M laws o.mode A n e false w.behind h.behind t.0) in
+      let b = after_answers M laws o A n q no no_in t.2 in
+      let out = onto_leaves M laws n _ _ b (join_leaf M laws n _ _ a.behind b.behind) in
+      (h.behind, all_both IsEntryOver _ _ (entries_over p yes yes_in t.1) (all_both IsEntryOver _ _ (entries_over q no no_in t.2) (entries_over rest _ out t.3)))
+  entries_over (While place e step body rest) w h t =
+      let l = TestFirst e step body in
+      let parts : ArePartsOf n l = (t.0, t.1, t.2, t.4) in
+      let x = final_leaf M o (lap_of M o l) w.behind in
+      let i = head_over l w.behind h.behind parts in
+      let b = body_answers M laws o A n l x i parts in
+      let step_in = enter_leaves M laws n _ (going_on_leaf M laws n _ b) in
+      let body_in = enter_leaves M laws n _ (assumed_leaf M laws o.mode A n e true x i t.0) in
+      let out = loop_leaves M laws n w _ _ h b (assumed_leaf M laws o.mode A n e false x i t.0) in
+      (i, all_both IsEntryOver _ _ (entries_over step _ step_in t.1) (all_both IsEntryOver _ _ (entries_over body _ body_in t.2) (entries_over rest _ out t.3)))
+  entries_over (Do place body at e rest) w h t =
+      let l = TestLast body at e in
+      let parts : ArePartsOf n l = (t.0, t.1) in
+      let x = final_leaf M o (lap_of M o l) w.behind in
+      let i = head_over l w.behind h.behind parts in
+      let b = body_answers M laws o A n l x i parts in
+      let again = going_on_leaf M laws n _ b in
+      let out = loop_leaves M laws n w _ _ h b (assumed_leaf M laws o.mode A n e false _ again t.0) in
+      (i, all_both IsEntryOver _ (_ ∷ _) (entries_over body _ (enter_leaves M laws n x i) t.1) (again, entries_over rest _ out t.2))
+  entries_over (Leave place jump rest) w h t = (h.behind, entries_over rest _ (leave_kept M laws o.mode A n jump w h t.0).leaves t.1)
+  entries_over (Block place body rest) w h t =
+      (h.behind, all_both IsEntryOver _ _ (entries_over body w h t.0) (entries_over rest _ (after_answers M laws o A n body w h t.0) t.1))
+  entries_over (Skip place rest) w h t = (h.behind, entries_over rest w h t)
+  entries_over (Cond number p q rest) w h t = entries_over rest w h t.2
+
+  found_over : (es : List Entry) (place : Place) (v : LeafValue) → AllByRecursion IsEntryOver es → IsLeaf M n v → IsLeaf M n (leaf_or v (entry_in es place))
   found_over [] place v h a = a
   found_over (e ∷ es) place v h a =
-      elim (is_same_place e.place place) as (λ b. IsOver (leaf_or v (if b then Some e else entry_in es place))) [
+      elim (is_same_place e.place place) as (λ b. IsLeaf M n (leaf_or v (if b then Some e else entry_in es place))) [
         | true ↦ h.0
         | false ↦ found_over es place v h.1 a
       ]
 
 -- ---- the leaf at a place
+
+end_over : (M : LeafMeaning) → LeafLaws M → (n : ℕ) (w : Ways) → AreLeaves M n w → IsLeaf M n (end_of M w)
+end_over M laws n w h =
+    joined_leaf M laws n _ w.continued (joined_leaf M laws n _ w.broke (joined_leaf M laws n w.behind w.returned h.behind h.returned) h.broke) h.continued
 
 either : {X : Type 0} (P : X → Type 0) (b : Bool) (x y : X) → P x → P y → P (if b then x else y)
 either P true x y p q = p
@@ -105,10 +100,13 @@ either P false x y p q = q
 
 at_over : (M : LeafMeaning) → LeafLaws M → (o : Options) → TransferAnswers M o.mode → (p : Whole) (d : LeafValue) (place : Place) → IsProgram p → M.valid d → d.variables ≡ length p.names → IsLeafLike M d (at_of M o p d place)
 at_over M laws o A p d place program valid e =
-    let code : IsCodeOf d.variables p.body = subst (λ m. IsCodeOf m p.body) (sym e) program.names in
-    let self = answers_self d valid in
-    let none : IsLeafLike M d (nothing_of d.variables) = record { valid = laws.nothing_valid d.variables (laws.valid_few d valid); same = refl } in
-    found_over M laws o A d (entries_of M o p.body d) place _ (entries_over M laws o A d p.body d self code) (either (λ v. IsLeafLike M d v) (is_same_place p.end place) (after_of M o p.body d) (nothing_of d.variables) (after_over M laws o A d p.body d self code) none)
+    let n = d.variables in
+    let code : IsCodeOf n p.body = subst (λ m. IsCodeOf m p.body) (sym e) program.names in
+    let self : IsLeaf M n d = record { valid = valid; count = refl } in
+    let begun = enter_leaves M laws n d self in
+    let end = end_over M laws n (after_of M o p.body (enter d)) (after_answers M laws o A n p.body (enter d) begun code) in
+    let other = either (IsLeaf M n) (is_same_place p.end place) (end_of M (after_of M o p.body (enter d))) (nothing_of n) end (nothing_leaf M laws n d self) in
+    like M laws n d _ self (found_over M laws o A n (entries_of M o p.body (enter d)) place _ (entries_over M laws o A n p.body (enter d) begun code) other)
 
 module _ (M : LeafMeaning) (laws : LeafLaws M) (o : Options) (A : TransferAnswers M o.mode) (p : Whole) (program : IsProgram p) (cs : List Formula) (pl : Formula) where
   begin_over : (v : List Bool) → IsLeafOver M p.names (begin_at M p cs pl v)

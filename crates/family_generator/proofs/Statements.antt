@@ -1,5 +1,5 @@
 -- The items of generated families spell programs.
-use Rattle.std.proofs.Common.{◌≡◌, ℕ, zero, suc, ◌+◌, List, [], ◌∷◌, ◌++◌, length, map, refl, ap, ◌∙◌, sym, subst, arith, ℤ, pos}
+use Rattle.std.proofs.Common.{◌≡◌, ℕ, zero, suc, ◌+◌, false, List, [], ◌∷◌, ◌++◌, length, map, refl, ap, ◌∙◌, sym, subst, arith, ℤ, pos}
 use Rattle.fam_outer.specs.declared.faults.Place.{Place}
 use Rattle.c_tree.specs.Tree.{Term, Number, Var, Binary, Code, Done}
 use Rattle.c_tree.specs.declared.tree.Op.{Op}
@@ -7,7 +7,7 @@ use Rattle.c_tree.specs.declared.tree.Op.TheVariants.{Add, Lt, Gt, Ge}
 use Rattle.c_grammar.specs.declared.items.Item.{Item}
 use Rattle.c_grammar.specs.declared.items.Sign.TheVariants as signs
 use Rattle.c_grammar.specs.Grammar as grammar
-use Rattle.c_grammar.specs.Grammar.{at, of_input, Expresses, number, name, loose, binary, Listed, Raise, Outer, File, present, int, unqualified, only_type, bare, variables_end, no_return}
+use Rattle.c_grammar.specs.Grammar.{at, of_input, Expresses, number, name, loose, binary, Listed, Raise, Outer, File, present, int, unqualified, only_type, bare, variables_end}
 use Rattle.c_grammar.specs.Within.{Full, WritesIn, assignment, input_taken, count_behind, none, more, choice, ends, otherwise, change, assert, while, if_else, DeclaresIn, nothing, variables, last_var, no_more, body, main, FormsWithin, file}
 use Rattle.family_generator.proofs.BlockTexts.{Block, Switched, Bounded, Checked}
 use Rattle.family_generator.proofs.Signs.{laid, laid_joined, laid_again, sign_in, place_in, block_signs, condition_count, blocks_signs, header_signs, file_signs}
@@ -40,7 +40,7 @@ literal p n = record { expresses = lifted 6 (number p n); short = omega arith }
 -- a list of statements, and what it writes
 pub record Lists (k : ℕ) (xs : List Item) : Type 0 where
   pub code : Code
-  pub written : WritesIn k Listed xs code
+  pub written : WritesIn k (Listed false) xs code
 
 abbrev input_items : Place → Place → Place → Place → Place → Place → ℕ → List Item
 input_items p q r s t u x = at p (signs.Name x) ∷ at q signs.Equals ∷ at r signs.Input ∷ at s signs.Open ∷ at t signs.Close ∷ at u signs.Semicolon ∷ []
@@ -139,7 +139,7 @@ header_formed a b c d e g p q r v s t z x y statements h = record {
   formed = file {us = at a signs.Int ∷ at b (signs.Name x) ∷ at c signs.Semicolon ∷ at d signs.Int ∷ at e (signs.Name y) ∷ at g signs.Semicolon ∷ []}
       {vs = at p signs.Int ∷ at q signs.Main ∷ at r signs.Open ∷ at v signs.Void ∷ at s signs.Close ∷ at t signs.LeftBrace ∷ (statements ++ at z signs.RightBrace ∷ [])}
       (declares a b c d e g x y)
-      (main q r s t z {ts = at p signs.Int ∷ []} {us = at v signs.Void ∷ []} {vs = statements ++ at z signs.RightBrace ∷ []} (int p) (present v signs.Void) (body z {us = statements} {vs = []} {ws = []} h.written no_return no_more));
+      (main q r s t z {ts = at p signs.Int ∷ []} {us = at v signs.Void ∷ []} {vs = statements ++ at z signs.RightBrace ∷ []} (int p) (present v signs.Void) (body z {us = statements} {vs = []} h.written no_more));
 }
 
 laid_formed : (f : ℕ → Place) (x y : ℕ) (bs : List Block) → IsFormed (laid f 0 (file_signs x y bs))

@@ -16,6 +16,7 @@ use Rattle.lifted_analysis.specs.Lines.{given_heads}
 use Rattle.lifted_analysis.specs.Turns.{turns_by, inductive_in}
 use Rattle.plain_analysis.specs.Places.{alarm_by}
 use Rattle.plain_analysis.specs.Statements.{Heads}
+use Rattle.plain_analysis.specs.Ways.{enter}
 use Rattle.interval_leaf.specs.Intervals.{intervals}
 use Rattle.linear_atoms.specs.SettingTexts.{config_text}
 use Rattle.alarm_report.specs.Texts.{place_text, kind_text}
@@ -74,9 +75,9 @@ ListsAllStops l c = (values : List ℤ) → IsValid (plain l.model) values → (
 abbrev pub heads_at : Certificate → List Bool → Whole → Heads
 heads_at c vector p = given_heads intervals c.loops.items vector (intervals.start p.start)
 
--- whether the head of the loop at the place holds what enters it, and what its body and then its step make of it
+-- whether the head of the loop at the place holds what enters it, and what a lap makes of it
 abbrev pub is_inductive_at : Certificate → List Bool → Whole → Place → Bool
-is_inductive_at c vector p place = inductive_in intervals (turns_by intervals c.mode (heads_at c vector p) p.body (intervals.start p.start)) place
+is_inductive_at c vector p place = inductive_in intervals (turns_by intervals c.mode (heads_at c vector p) p.body (enter (intervals.start p.start))) place
 
 -- whether the statement at the place may stop with the kind
 abbrev pub may_stop_at : Certificate → List Bool → Whole → Place → Kind → Bool

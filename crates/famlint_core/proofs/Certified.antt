@@ -36,6 +36,7 @@ use Rattle.c_parser.proofs.KeptTexts.{TextsAreReadOnce}
 use Rattle.leaf_domain.specs.Leaves.{LeafMeaning}
 use Rattle.interval_leaf.specs.Intervals.{intervals}
 use Rattle.plain_analysis.specs.declared.options.Options.{Options}
+use Rattle.plain_analysis.specs.Ways.{enter}
 use Rattle.plain_analysis.specs.Places.{alarm_by}
 use Rattle.lifted_analysis.specs.Lines.{given_heads}
 use Rattle.lifted_analysis.specs.Promises.{truths_of, leaf_at, stop_at}
@@ -197,7 +198,7 @@ module _ (M : LeafMeaning) (p : Whole) (cs ds : List Formula) (atoms : List Atom
   same_inductive : (x : Place) (values : List ℤ) → is_inductive M p cs atoms c x values ≡ is_inductive M p ds atoms c x values
   same_inductive x values =
       ap (λ (t : List Bool). let q = projected_program t p in
-      inductive_in M (turns_by M c.mode (given_heads M c.loops.items (vector_at atoms values) (M.start q.start)) q.body (M.start q.start)) x) (truths values)
+      inductive_in M (turns_by M c.mode (given_heads M c.loops.items (vector_at atoms values) (M.start q.start)) q.body (enter (M.start q.start))) x) (truths values)
 
   same_covered : (at : Place × Kind) (values : List ℤ) → is_covered M p cs atoms c at values ≡ is_covered M p ds atoms c at values
   same_covered at values =

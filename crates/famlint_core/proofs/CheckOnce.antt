@@ -21,6 +21,7 @@ use Rattle.leaf_domain.specs.Leaves.{LeafValue, LeafMeaning}
 use Rattle.interval_leaf.specs.Intervals.{intervals}
 use Rattle.plain_analysis.specs.Places.{is_same_place, alarm_by}
 use Rattle.plain_analysis.specs.Statements.{Heads}
+use Rattle.plain_analysis.specs.Ways.{enter}
 use Rattle.lifted_analysis.specs.declared.lines.LoopLine.{LoopLine}
 use Rattle.lifted_analysis.specs.Lines.{bounded_by, given_at, given_heads}
 use Rattle.lifted_analysis.specs.Turns.{turns_by, inductive_in}
@@ -69,7 +70,7 @@ given_alike M (l ∷ ls) (m ∷ ms) v d q h =
     ∙ ap₂ (λ (here later : LeafValue). given_by M m.place q (true_on v (formula m.region)) here later) (ap (λ b. bounded_by M b d) h.0.bounds) (given_alike M ls ms v d q h.1)
 
 heads_alike : (M : LeafMeaning) (ls ms : List LoopLine) (v : List Bool) (d : LeafValue) → ArePairs AreLoopsAlike ls ms → given_heads M ls v d ≡ given_heads M ms v d
-heads_alike M ls ms v d h = λ i place test body x. given_alike M ls ms v d place h i
+heads_alike M ls ms v d h = λ i place lap x. given_alike M ls ms v d place h i
 
 abbrev lists_by : Place → Kind → Proposition ℕ → Place × Kind → List Bool → Bool
 lists_by place kind p at v = (is_same_place place at.0 && is_same_kind kind at.1) && true_on v p
@@ -93,7 +94,7 @@ as_many R (x ∷ xs) (y ∷ ys) h = ap (λ n. suc n) (as_many R xs ys h.1)
 module _ (M : LeafMeaning) (p : Whole) (cs : List Formula) (atoms : List Atom) (c d : Certificate) (h : AreCertificatesAlike c d) where
   inductive_alike : (x : Place) (values : List ℤ) → is_inductive M p cs atoms c x values ≡ is_inductive M p cs atoms d x values
   inductive_alike x values =
-      ap₂ (λ (mode : Mode) (heads : Heads). inductive_in M (turns_by M mode heads (variant_of M p cs atoms c values).body (begin_of M p cs atoms c values)) x) h.mode
+      ap₂ (λ (mode : Mode) (heads : Heads). inductive_in M (turns_by M mode heads (variant_of M p cs atoms c values).body (enter (begin_of M p cs atoms c values))) x) h.mode
       (heads_alike M c.loops.items d.loops.items (vector_at atoms values) (begin_of M p cs atoms c values) h.loops)
 
   covered_alike : (at : Place × Kind) (values : List ℤ) → is_covered M p cs atoms c at values ≡ is_covered M p cs atoms d at values

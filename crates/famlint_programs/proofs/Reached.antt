@@ -5,7 +5,7 @@ use Rattle.std.proofs.lemmas.Bool.{eqb-true}
 use Rattle.std.proofs.lemmas.Option.{none-some}
 use Rattle.fam_outer.specs.declared.faults.Place.{Place}
 use Rattle.c_tree.specs.declared.tree.Kind.{Kind}
-use Rattle.c_tree.specs.Tree.{Code, Done, Assign, Input, Assert, If, While, Block, Skip, Cond, Whole}
+use Rattle.c_tree.specs.Tree.{Code, Done, Assign, Input, Assert, If, While, Do, Leave, Block, Skip, Cond, Whole}
 use Rattle.c_tree.specs.Places.{places_of, program_places}
 use Rattle.c_tree.specs.Project.{projected, projected_program}
 use Rattle.c_tree.proofs.Listed.{places_of-followed}
@@ -13,6 +13,7 @@ use Rattle.c_tree.proofs.Wholes.{IsPlain-projected}
 use Rattle.leaf_domain.specs.Leaves.{LeafValue, LeafMeaning, LeafLaws, nothing_of}
 use Rattle.plain_analysis.specs.declared.options.Options.{Options}
 use Rattle.plain_analysis.specs.Statements.{Entry, after_of, entries_of, final_heads}
+use Rattle.plain_analysis.specs.Ways.{enter, end_of}
 use Rattle.plain_analysis.specs.Places.{is_same_place, entry_in, entry_by, leaf_or, at_of, may_stop, alarm_of}
 use Rattle.plain_analysis.proofs.Located.{place_of, places_of_entries}
 
@@ -62,6 +63,11 @@ projected_in truths x (While place test step body rest) h =
     in_cons x place (places_of (projected truths step) ++ (places_of (projected truths body) ++ places_of (projected truths rest))) (places_of step ++ (places_of body ++ places_of rest))
     (in_both x (places_of (projected truths step)) (places_of step) (places_of (projected truths body) ++ places_of (projected truths rest)) (places_of body ++ places_of rest) (projected_in truths x step)
     (in_both x (places_of (projected truths body)) (places_of body) (places_of (projected truths rest)) (places_of rest) (projected_in truths x body) (projected_in truths x rest))) h
+projected_in truths x (Do place body at test rest) h =
+    in_cons x place (places_of (projected truths body) ++ at ∷ places_of (projected truths rest)) (places_of body ++ at ∷ places_of rest)
+    (in_both x (places_of (projected truths body)) (places_of body) (at ∷ places_of (projected truths rest)) (at ∷ places_of rest) (projected_in truths x body)
+    (in_cons x at (places_of (projected truths rest)) (places_of rest) (projected_in truths x rest))) h
+projected_in truths x (Leave place jump rest) h = in_cons x place (places_of (projected truths rest)) (places_of rest) (projected_in truths x rest) h
 projected_in truths x (Block place body rest) h =
     in_cons x place (places_of (projected truths body) ++ places_of (projected truths rest)) (places_of body ++ places_of rest)
     (in_both x (places_of (projected truths body)) (places_of body) (places_of (projected truths rest)) (places_of rest) (projected_in truths x body) (projected_in truths x rest)) h
@@ -106,7 +112,7 @@ module _ (M : LeafMeaning) (o : Options) (p : Whole) (truths : List Bool) (d : L
   entry_there : (x : Place) (e : Entry) → entry_by M o.mode (final_heads M o) q d x ≡ Some e → IsIn x (program_places p)
   entry_there x e h =
       variant_in truths x p (in_left x (places_of q.body) (q.end ∷ [])
-      (subst (IsIn x) (places_of_entries M o.mode (final_heads M o) q.body d (IsPlain-projected truths p.body)) (found_in (entries_of M o q.body d) x e h)))
+      (subst (IsIn x) (places_of_entries M o.mode (final_heads M o) q.body (enter d) (IsPlain-projected truths p.body)) (found_in (entries_of M o q.body (enter d)) x e h)))
 
   -- where there is an alarm, the place is the family's
   alarm_by : (x : Place) (kind : Kind) (found : Option Entry) → entry_by M o.mode (final_heads M o) q d x ≡ found → may_stop M o.mode found kind ≡ true → IsIn x (program_places p)
@@ -117,12 +123,12 @@ module _ (M : LeafMeaning) (o : Options) (p : Whole) (truths : List Bool) (d : L
   alarm_there x kind h = alarm_by x kind (entry_by M o.mode (final_heads M o) q d x) refl h
 
   -- where the leaf holds a store, the place is the family's
-  ends_by : LeafLaws M → (x : Place) (store : List ℤ) (b : Bool) → is_same_place q.end x ≡ b → M.holds (if b then after_of M o q.body d else nothing_of d.variables) store → IsIn x (program_places p)
+  ends_by : LeafLaws M → (x : Place) (store : List ℤ) (b : Bool) → is_same_place q.end x ≡ b → M.holds (if b then end_of M (after_of M o q.body (enter d)) else nothing_of d.variables) store → IsIn x (program_places p)
   ends_by laws x store true e h = variant_in truths x p (in_right x (places_of q.body) (q.end ∷ []) (inl (same_place q.end x e)))
   ends_by laws x store false e h = absurd (laws.nothing_holds d.variables store h)
 
   leaf_by : LeafLaws M → (x : Place) (store : List ℤ) (found : Option Entry) → entry_by M o.mode (final_heads M o) q d x ≡ found
-      → M.holds (leaf_or (if is_same_place q.end x then after_of M o q.body d else nothing_of d.variables) found) store → IsIn x (program_places p)
+      → M.holds (leaf_or (if is_same_place q.end x then end_of M (after_of M o q.body (enter d)) else nothing_of d.variables) found) store → IsIn x (program_places p)
   leaf_by laws x store None e h = ends_by laws x store (is_same_place q.end x) refl h
   leaf_by laws x store (Some f) e h = entry_there x f e
 

@@ -7,7 +7,7 @@ use Rattle.std.proofs.lemmas.List.Elements.{All-head, All-tail}
 use Rattle.c_tree.specs.declared.lists.Declared.{Declared}
 use Rattle.c_tree.specs.declared.lists.Guard.{Guard}
 use Rattle.c_tree.specs.Project.{projected, IsNumbered, guard_holds, guards_hold, last_value, start_from, projected_start, IsGuarded}
-use Rattle.c_tree.specs.Tree.{Code, Done, Assign, Input, Assert, If, While, Block, Skip, Cond, followed, Whole}
+use Rattle.c_tree.specs.Tree.{Code, Done, Assign, Input, Assert, If, While, Do, Leave, Block, Skip, Cond, followed, Whole}
 use Rattle.feature_values.specs.Laws.{ConditionsAreEnough}
 
 code_kept : (ts more : List Bool) (c : Code) → IsNumbered (length ts) c → projected (ts ++ more) c ≡ projected ts c
@@ -17,6 +17,8 @@ code_kept ts more (Input place target rest) h = ap (Input place target) (code_ke
 code_kept ts more (Assert place test rest) h = ap (Assert place test) (code_kept ts more rest h)
 code_kept ts more (If place test p q rest) h = λ i. If place test (code_kept ts more p h.0 i) (code_kept ts more q h.1 i) (code_kept ts more rest h.2 i)
 code_kept ts more (While place test step body rest) h = λ i. While place test (code_kept ts more step h.0 i) (code_kept ts more body h.1 i) (code_kept ts more rest h.2 i)
+code_kept ts more (Do place body at test rest) h = λ i. Do place (code_kept ts more body h.0 i) at test (code_kept ts more rest h.1 i)
+code_kept ts more (Leave place jump rest) h = ap (Leave place jump) (code_kept ts more rest h)
 code_kept ts more (Block place body rest) h = λ i. Block place (code_kept ts more body h.0 i) (code_kept ts more rest h.1 i)
 code_kept ts more (Skip place rest) h = ap (Skip place) (code_kept ts more rest h)
 code_kept ts more (Cond number p q rest) h =

@@ -8,7 +8,7 @@ use Rattle.linear_atoms.specs.Atoms.{AreRanges}
 use Rattle.c_tree.specs.declared.lists.Declared.{Declared}
 use Rattle.c_tree.specs.declared.lists.Guard.{Guard}
 use Rattle.c_tree.specs.Project.{IsNumbered, IsGuarded, IsConditioned}
-use Rattle.c_tree.specs.Tree.{Code, Done, Assign, Input, Assert, If, While, Block, Skip, Cond, Whole}
+use Rattle.c_tree.specs.Tree.{Code, Done, Assign, Input, Assert, If, While, Do, Leave, Block, Skip, Cond, Whole}
 use Rattle.c_tree.specs.Whole.{IsDeclaredOf, IsProgram}
 use Rattle.feature_values.specs.declared.feature_uses.Use.{Use}
 use Rattle.feature_values.specs.Declarators.{is_true, declarators_above, declarators}
@@ -65,6 +65,8 @@ numbered_within m n (Input place target rest) l h = numbered_within m n rest l h
 numbered_within m n (Assert place test rest) l h = numbered_within m n rest l h
 numbered_within m n (If place test p q rest) l h = (numbered_within m n p l h.0, numbered_within m n q l h.1, numbered_within m n rest l h.2)
 numbered_within m n (While place test step body rest) l h = (numbered_within m n step l h.0, numbered_within m n body l h.1, numbered_within m n rest l h.2)
+numbered_within m n (Do place body at test rest) l h = (numbered_within m n body l h.0, numbered_within m n rest l h.1)
+numbered_within m n (Leave place jump rest) l h = numbered_within m n rest l h
 numbered_within m n (Block place body rest) l h = (numbered_within m n body l h.0, numbered_within m n rest l h.1)
 numbered_within m n (Skip place rest) l h = numbered_within m n rest l h
 numbered_within m n (Cond number p q rest) l h = (number_within number h.0, numbered_within m n p l h.1, numbered_within m n q l h.2, numbered_within m n rest l h.3)

@@ -41,7 +41,7 @@ pub const FILE_CODES: [(&str, &str); 23] = [
     ),
     (
         "F16",
-        "F16: A file is refused.\nCause: an `if`, a `while`, a `for` or a block with 64 of these around it, at its\nfirst token (the body of `main` is no block); or the 65th operator or opening\nparenthesis of an expression, at it. The parentheses of `if`, `while`, `for`,\n`assert` and `input` do not count. Or: an `if`, a `while`, a `for`, a block, an\n`#if` or an `#elif` with 64 of these around it; an `#elif` has its `#if` and the\nearlier `#elif`s around it; at its first token or `#`.\nWhat to do: cut the expression by a variable of its own. Or: cut the section in\ntwo.\n",
+        "F16: A file is refused.\nCause: an `if`, a `while`, a `do`, a `for` or a block with 64 of these around\nit, at its first token (the body of `main` is no block); or the 65th operator or\nopening parenthesis of an expression, at it. The parentheses of `if`, `while`,\n`do`, `for`, `assert` and `input` do not count. Or: an `if`, a `while`, a `do`,\na `for`, a block, an `#if` or an `#elif` with 64 of these around it; an `#elif`\nhas its `#if` and the earlier `#elif`s around it; at its first token or `#`.\nWhat to do: cut the expression by a variable of its own. Or: cut the section in\ntwo.\n",
     ),
     (
         "F13",

@@ -7,11 +7,12 @@ use Rattle.c_tree.specs.declared.tree.Mode.{Mode}
 use Rattle.c_tree.specs.Fit.{IsPlain}
 use Rattle.c_tree.specs.Places.{places_of}
 use Rattle.c_tree.specs.Project.{projected}
-use Rattle.c_tree.specs.Tree.{Code, Done, Assign, Input, Assert, If, While, Block, Skip, Cond, followed}
+use Rattle.c_tree.specs.Tree.{Code, Done, Assign, Input, Assert, If, While, Do, Leave, Block, Skip, Cond, followed}
 use Rattle.c_tree.proofs.Listed.{places_of-followed}
-use Rattle.leaf_domain.specs.Leaves.{LeafValue, LeafMeaning}
+use Rattle.leaf_domain.specs.Leaves.{LeafMeaning}
 use Rattle.leaf_domain.specs.Transfer.{assumed, assigned, forgotten}
-use Rattle.plain_analysis.specs.Statements.{Heads, passed, head_by}
+use Rattle.plain_analysis.specs.Statements.{Heads, TestFirst, TestLast, passed, chosen, through_body, head_by, behind_by}
+use Rattle.plain_analysis.specs.Ways.{Ways, onto, enter, leave_by, going_on}
 use Rattle.lifted_analysis.specs.Turns.{Turn, turns_by, loop_places}
 use Rattle.certificate_format.proofs.LoopLines.{loops_followed}
 use Rattle.invariant_certificate.proofs.Sublists.{Within, none, takes, skips, both, at_left, at_right}
@@ -33,6 +34,10 @@ loops_projected ts (While place test step body rest) =
     takes place (loop_places (projected ts step) ++ (loop_places (projected ts body) ++ loop_places (projected ts rest))) (loop_places step ++ (loop_places body ++ loop_places rest))
     (both (loop_places (projected ts step)) (loop_places step) (loop_places (projected ts body) ++ loop_places (projected ts rest)) (loop_places body ++ loop_places rest) (loops_projected ts step)
     (both (loop_places (projected ts body)) (loop_places body) (loop_places (projected ts rest)) (loop_places rest) (loops_projected ts body) (loops_projected ts rest)))
+loops_projected ts (Do place body at test rest) =
+    takes place (loop_places (projected ts body) ++ loop_places (projected ts rest)) (loop_places body ++ loop_places rest)
+    (both (loop_places (projected ts body)) (loop_places body) (loop_places (projected ts rest)) (loop_places rest) (loops_projected ts body) (loops_projected ts rest))
+loops_projected ts (Leave place jump rest) = loops_projected ts rest
 loops_projected ts (Block place body rest) =
     both (loop_places (projected ts body)) (loop_places body) (loop_places (projected ts rest)) (loop_places rest) (loops_projected ts body) (loops_projected ts rest)
 loops_projected ts (Skip place rest) = loops_projected ts rest
@@ -57,6 +62,11 @@ places_projected ts (While place test step body rest) =
     takes place (places_of (projected ts step) ++ (places_of (projected ts body) ++ places_of (projected ts rest))) (places_of step ++ (places_of body ++ places_of rest))
     (both (places_of (projected ts step)) (places_of step) (places_of (projected ts body) ++ places_of (projected ts rest)) (places_of body ++ places_of rest) (places_projected ts step)
     (both (places_of (projected ts body)) (places_of body) (places_of (projected ts rest)) (places_of rest) (places_projected ts body) (places_projected ts rest)))
+places_projected ts (Do place body at test rest) =
+    takes place (places_of (projected ts body) ++ at ∷ places_of (projected ts rest)) (places_of body ++ at ∷ places_of rest)
+    (both (places_of (projected ts body)) (places_of body) (at ∷ places_of (projected ts rest)) (at ∷ places_of rest) (places_projected ts body)
+    (takes at (places_of (projected ts rest)) (places_of rest) (places_projected ts rest)))
+places_projected ts (Leave place jump rest) = takes place (places_of (projected ts rest)) (places_of rest) (places_projected ts rest)
 places_projected ts (Block place body rest) =
     takes place (places_of (projected ts body) ++ places_of (projected ts rest)) (places_of body ++ places_of rest)
     (both (places_of (projected ts body)) (places_of body) (places_of (projected ts rest)) (places_of rest) (places_projected ts body) (places_projected ts rest))
@@ -83,6 +93,11 @@ loops_placed (While place test step body rest) =
     takes place (loop_places step ++ (loop_places body ++ loop_places rest)) (places_of step ++ (places_of body ++ places_of rest))
     (both (loop_places step) (places_of step) (loop_places body ++ loop_places rest) (places_of body ++ places_of rest) (loops_placed step)
     (both (loop_places body) (places_of body) (loop_places rest) (places_of rest) (loops_placed body) (loops_placed rest)))
+loops_placed (Do place body at test rest) =
+    takes place (loop_places body ++ loop_places rest) (places_of body ++ at ∷ places_of rest)
+    (both (loop_places body) (places_of body) (loop_places rest) (at ∷ places_of rest) (loops_placed body)
+    (skips at (loop_places rest) (places_of rest) (loops_placed rest)))
+loops_placed (Leave place jump rest) = skips place (loop_places rest) (places_of rest) (loops_placed rest)
 loops_placed (Block place body rest) =
     skips place (loop_places body ++ loop_places rest) (places_of body ++ places_of rest)
     (both (loop_places body) (places_of body) (loop_places rest) (places_of rest) (loops_placed body) (loops_placed rest))
@@ -97,34 +112,43 @@ abbrev pub turn_place : Turn → Place
 turn_place t = t.place
 
 module _ (M : LeafMeaning) (mode : Mode) (H : Heads) where
-  pub turns_placed : (c : Code) (v : LeafValue) → IsPlain c → map turn_place (turns_by M mode H c v) ≡ loop_places c
-  turns_placed Done v h = refl
-  turns_placed (Assign place x e rest) v h = turns_placed rest (assigned M mode x e v) h
-  turns_placed (Input place x rest) v h = turns_placed rest (forgotten M x v) h
-  turns_placed (Assert place e rest) v h = turns_placed rest (assumed M mode e true v) h
-  turns_placed (If place e p q rest) v h =
-      let x = assumed M mode e true v in
-      let y = assumed M mode e false v in
-      let z = M.join (passed M mode H p x) (passed M mode H q y) in
+  pub turns_placed : (c : Code) (w : Ways) → IsPlain c → map turn_place (turns_by M mode H c w) ≡ loop_places c
+  turns_placed Done w h = refl
+  turns_placed (Assign place x e rest) w h = turns_placed rest (onto w (assigned M mode x e w.behind)) h
+  turns_placed (Input place x rest) w h = turns_placed rest (onto w (forgotten M x w.behind)) h
+  turns_placed (Assert place e rest) w h = turns_placed rest (onto w (assumed M mode e true w.behind)) h
+  turns_placed (If place e p q rest) w h =
+      let x = onto w (assumed M mode e true w.behind) in
+      let y = onto (passed M mode H p x) (assumed M mode e false w.behind) in
+      let z = chosen M mode H e p q w in
       map-append turn_place (turns_by M mode H p x) (turns_by M mode H q y ++ turns_by M mode H rest z)
       ∙ ap (λ l. l ++ map turn_place (turns_by M mode H q y ++ turns_by M mode H rest z)) (turns_placed p x h.0)
       ∙ ap (λ l. loop_places p ++ l) (map-append turn_place (turns_by M mode H q y) (turns_by M mode H rest z)
       ∙ ap (λ l. l ++ map turn_place (turns_by M mode H rest z)) (turns_placed q y h.1)
       ∙ ap (λ l. loop_places q ++ l) (turns_placed rest z h.2))
-  turns_placed (While place e step body rest) v h =
-      let head = head_by M mode H place e step body v in
-      let x = assumed M mode e true head in
-      let y = assumed M mode e false head in
-      let z = passed M mode H body x in
+  turns_placed (While place e step body rest) w h =
+      let l = TestFirst e step body in
+      let head = head_by M mode H place l w.behind in
+      let x = enter (assumed M mode e true head) in
+      let y = behind_by M mode H l w head in
+      let z = enter (going_on M (through_body M mode H l head)) in
       ap (λ l. place ∷ l) (map-append turn_place (turns_by M mode H step z) (turns_by M mode H body x ++ turns_by M mode H rest y)
       ∙ ap (λ l. l ++ map turn_place (turns_by M mode H body x ++ turns_by M mode H rest y)) (turns_placed step z h.0)
       ∙ ap (λ l. loop_places step ++ l) (map-append turn_place (turns_by M mode H body x) (turns_by M mode H rest y)
       ∙ ap (λ l. l ++ map turn_place (turns_by M mode H rest y)) (turns_placed body x h.1)
       ∙ ap (λ l. loop_places body ++ l) (turns_placed rest y h.2)))
-  turns_placed (Block place body rest) v h =
-      let y = passed M mode H body v in
-      map-append turn_place (turns_by M mode H body v) (turns_by M mode H rest y)
-      ∙ ap (λ l. l ++ map turn_place (turns_by M mode H rest y)) (turns_placed body v h.0)
+  turns_placed (Do place body at e rest) w h =
+      let l = TestLast body at e in
+      let x = enter (head_by M mode H place l w.behind) in
+      let y = behind_by M mode H l w (head_by M mode H place l w.behind) in
+      ap (λ l. place ∷ l) (map-append turn_place (turns_by M mode H body x) (turns_by M mode H rest y)
+      ∙ ap (λ l. l ++ map turn_place (turns_by M mode H rest y)) (turns_placed body x h.0)
+      ∙ ap (λ l. loop_places body ++ l) (turns_placed rest y h.1))
+  turns_placed (Leave place jump rest) w h = turns_placed rest (leave_by M mode jump w) h
+  turns_placed (Block place body rest) w h =
+      let y = passed M mode H body w in
+      map-append turn_place (turns_by M mode H body w) (turns_by M mode H rest y)
+      ∙ ap (λ l. l ++ map turn_place (turns_by M mode H rest y)) (turns_placed body w h.0)
       ∙ ap (λ l. loop_places body ++ l) (turns_placed rest y h.1)
-  turns_placed (Skip place rest) v h = turns_placed rest v h
-  turns_placed (Cond number p q rest) v h = absurd h
+  turns_placed (Skip place rest) w h = turns_placed rest w h
+  turns_placed (Cond number p q rest) w h = absurd h

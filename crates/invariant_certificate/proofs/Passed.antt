@@ -30,6 +30,7 @@ use Rattle.lifted_analysis.specs.Promises.{truths_of, variant_at, begin_at, by_k
 use Rattle.lifted_analysis.specs.Turns.{Turn, AreInductive, turns_by, inductive_in, loop_places}
 use Rattle.lifted_analysis.specs.Turns as turns
 use Rattle.plain_analysis.specs.Places.{at_by, alarm_by, alarms_by}
+use Rattle.plain_analysis.specs.Ways.{enter}
 use Rattle.plain_analysis.specs.Promises.{RunsForeseenBy, IsForeseen}
 use Rattle.invariant_certificate.specs.Failing.{HoldsAlways, AllHold}
 use Rattle.invariant_certificate.specs.FirstFailing.{loop_holds, stop_holds}
@@ -65,7 +66,7 @@ module _ (M : LeafMeaning) (model : Model) (p : Whole) (cs : List Formula) (ats 
       → inductive_at M c.mode p cs pl c.loops.items q (vector_at ats values) ≡ is_inductive M p cs ats c q values
   inductive_same values q e =
       let v = vector_at ats values in
-      ap (λ d. inductive_in M (turns_by M c.mode (given_heads M c.loops.items v d) (variant_at p cs v).body d) q) (begins values e)
+      ap (λ d. inductive_in M (turns_by M c.mode (given_heads M c.loops.items v d) (variant_at p cs v).body (enter d)) q) (begins values e)
 
   stop_same : (values : List ℤ) (at : Place × Kind) → true_on (vector_at ats values) (formula pl) ≡ true
       → pass_stop_at M c.mode p cs pl c.loops.items at (vector_at ats values) ≡ may_stop M p cs ats c at values
@@ -117,7 +118,7 @@ module _ (M : LeafMeaning) (model : Model) (p : Whole) (cs : List Formula) (ats 
 
     turn_places : (v : List Bool) → map turn_place (turns_at_vector M c.mode p cs pl c.loops.items v) ≡ loop_places (variant_at p cs v).body
     turn_places v =
-        turns_placed M c.mode (heads_at M p cs pl c.loops.items v) (variant_at p cs v).body (begin_at M p cs pl v) (IsPlain-projected (truths_of cs v) p.body)
+        turns_placed M c.mode (heads_at M p cs pl c.loops.items v) (variant_at p cs v).body (enter (begin_at M p cs pl v)) (IsPlain-projected (truths_of cs v) p.body)
 
     inductive_there : (values : List ℤ) → IsValid (plain model) values → AreInductive M (turns_at_vector M c.mode p cs pl c.loops.items (vector_at ats values))
     inductive_there values ok =

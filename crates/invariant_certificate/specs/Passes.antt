@@ -13,6 +13,7 @@ use Rattle.cpp_conditions.specs.View.{formula}
 use Rattle.leaf_domain.specs.Leaves.{LeafValue, LeafMeaning}
 use Rattle.plain_analysis.specs.Places.{is_same_place, alarm_by}
 use Rattle.plain_analysis.specs.Statements.{Heads}
+use Rattle.plain_analysis.specs.Ways.{enter}
 use Rattle.lifted_analysis.specs.Lines.{given_heads}
 use Rattle.lifted_analysis.specs.Promises.{variant_at}
 use Rattle.lifted_analysis.specs.Turns.{turns_by, inductive_in}
@@ -53,7 +54,7 @@ module _ (M : LeafMeaning) (p : Whole) (conditions : List Formula) (atoms : List
 
   -- whether its loop at a place is inductive
   abbrev pub is_inductive : Place → List ℤ → Bool
-  is_inductive place values = inductive_in M (turns_by M c.mode (heads_of values) (variant_of values).body (begin_of values)) place
+  is_inductive place values = inductive_in M (turns_by M c.mode (heads_of values) (variant_of values).body (enter (begin_of values))) place
 
   -- whether it may stop at a place with a kind
   abbrev pub may_stop : Place × Kind → List ℤ → Bool

@@ -1,9 +1,10 @@
 -- The stages of a file: which function takes the step of a state.
 use Rattle.std.specs.Prelude.{ℕ}
-use Rattle.c_grammar.specs.Machine.{ReadingState, Outside, AfterStatic, AfterExtern, AfterConst, AfterEnum, AfterVoidType, AfterType, Declaring, Bare, Starting, Negating, Started, Listing, Enumerated, AfterDefine, Defining, NegativeDefining, Enclosing, NegativeEnclosing, Enclosed, Parameters, InParameters, AfterVoid, AfterParameters, Ready, LocalConst, LocalType, NextLocal, LocalNamed, InStatic, Ended, Wants, Has, Counting, Named, Opens, ForOpens, StartComes, TestComes, StepComes, VoidComes, VoidCloses, CallComes, CallOpens, CallCloses, Finishing, Returning, Returned, Closing, Over}
+use Rattle.c_grammar.specs.Machine.{ReadingState, Outside, AfterStatic, AfterExtern, AfterConst, AfterEnum, AfterVoidType, AfterType, Declaring, Bare, Starting, Negating, Started, Listing, Enumerated, AfterDefine, Defining, NegativeDefining, Enclosing, NegativeEnclosing, Enclosed, Parameters, InParameters, AfterVoid, AfterParameters, Ready, LocalConst, LocalType, NextLocal, LocalNamed, InStatic, Ended, Wants, Has, Counting, Named, Opens, ForOpens, StartComes, TestComes, StepComes, RedoOpens, RedoComes, VoidComes, VoidCloses, CallComes, CallOpens, CallCloses, Finishing, Over}
 
 -- 0 before a declarator, 1 in it, 2 in a definition, 3 at a statement, 4 in a declaration in `main`, 5 at an expression,
--- 6 in the parentheses of a `for`, 7 in a call, 8 in the parentheses of a function that is declared or at the end of a file
+-- 6 in the parentheses of a `for`, 7 before the test of a `do`, 8 in a call, 9 in the parentheses of a function that is declared
+-- or at the end of a file
 abbrev pub stage : ReadingState → ℕ
 stage (Outside secs ds) = 0
 stage (AfterStatic secs ds) = 0
@@ -42,16 +43,15 @@ stage (ForOpens outer) = 6
 stage (StartComes outer) = 6
 stage (TestComes start outer) = 6
 stage (StepComes start p e outer) = 6
-stage (VoidComes p outer) = 7
-stage (VoidCloses p outer) = 7
-stage (CallComes p outer) = 7
-stage (CallOpens made) = 7
-stage (CallCloses made) = 7
-stage (Parameters aim) = 8
-stage (InParameters aim) = 8
-stage (AfterVoid aim) = 8
-stage (AfterParameters aim) = 8
-stage (Returning p ds made) = 8
-stage (Returned ds made) = 8
-stage (Closing ds made) = 8
-stage (Over f parts) = 8
+stage (RedoOpens p c outer) = 7
+stage (RedoComes p c outer) = 7
+stage (VoidComes p outer) = 8
+stage (VoidCloses p outer) = 8
+stage (CallComes p outer) = 8
+stage (CallOpens made) = 8
+stage (CallCloses made) = 8
+stage (Parameters aim) = 9
+stage (InParameters aim) = 9
+stage (AfterVoid aim) = 9
+stage (AfterParameters aim) = 9
+stage (Over f parts) = 9

@@ -19,6 +19,8 @@ use Rattle.item_reader.specs.declared.unfinished.Frame.TheVariants as frames
 use Rattle.item_reader.specs.declared.unfinished.Link.{Link}
 use Rattle.item_reader.specs.declared.unfinished.Stack.{Stack}
 use Rattle.item_reader.specs.declared.unfinished.Stack.TheVariants as stacks
+use Rattle.item_reader.specs.declared.unfinished.Onward.{Onward}
+use Rattle.item_reader.specs.declared.unfinished.Onward.TheVariants as onwards
 use Rattle.item_reader.specs.declared.unfinished.Site.{Site}
 use Rattle.item_reader.specs.declared.unfinished.Site.TheVariants as sites
 use Rattle.item_reader.specs.declared.unfinished.Purpose.{Purpose}
@@ -81,6 +83,11 @@ as_stack (stacks.No' links number first made q outer) = machine.No (as_links lin
 as_stack (stacks.ThenOf' place test q outer) = machine.ThenOf place (term test) (as_stack outer)
 as_stack (stacks.ElseOf' place test first q outer) = machine.ElseOf place (term test) (code first.items) (as_stack outer)
 as_stack (stacks.LoopOf' start place test advance q outer) = machine.LoopOf (code start.items) place (term test) (code advance.items) (as_stack outer)
+as_stack (stacks.DoOf' place q outer) = machine.DoOf place (as_stack outer)
+
+abbrev pub as_onward : Onward → machine.Onward
+as_onward (onwards.InList outer) = machine.InList (as_stack outer)
+as_onward (onwards.AtTest place body outer) = machine.AtTest place (code body.items) (as_stack outer)
 
 abbrev pub as_site : Site → machine.Site
 as_site (sites.AsStatement outer) = machine.AsStatement (as_stack outer)
@@ -100,6 +107,8 @@ as_purpose (purposes.ToAssert place outer) = machine.ToAssert place (as_stack ou
 as_purpose (purposes.ToChoose place outer) = machine.ToChoose place (as_stack outer)
 as_purpose (purposes.ToLoop place outer) = machine.ToLoop place (as_stack outer)
 as_purpose (purposes.ToRepeat start place outer) = machine.ToRepeat (code start.items) place (as_stack outer)
+as_purpose (purposes.ToRedo place body test_place outer) = machine.ToRedo place (code body.items) test_place (as_stack outer)
+as_purpose (purposes.ToReturn place outer) = machine.ToReturn place (as_stack outer)
 
 abbrev pub as_pending : Pending → machine.Pending
 as_pending (pendings.OfStatement site statement) = machine.OfStatement (as_site site) (front statement Done)
@@ -186,15 +195,14 @@ as_state (states.ForOpens outer) = machine.ForOpens (as_stack outer)
 as_state (states.StartComes outer) = machine.StartComes (as_stack outer)
 as_state (states.TestComes start outer) = machine.TestComes (code start.items) (as_stack outer)
 as_state (states.StepComes start place test outer) = machine.StepComes (code start.items) place (term test) (as_stack outer)
+as_state (states.RedoOpens place body outer) = machine.RedoOpens place (code body.items) (as_stack outer)
+as_state (states.RedoComes place body outer) = machine.RedoComes place (code body.items) (as_stack outer)
 as_state (states.VoidComes place outer) = machine.VoidComes place (as_stack outer)
 as_state (states.VoidCloses place outer) = machine.VoidCloses place (as_stack outer)
 as_state (states.CallComes place outer) = machine.CallComes place (as_stack outer)
 as_state (states.CallOpens pending) = machine.CallOpens (as_pending pending)
 as_state (states.CallCloses pending) = machine.CallCloses (as_pending pending)
 as_state (states.Finishing pending) = machine.Finishing (as_pending pending)
-as_state (states.Returning place ds made) = machine.Returning place ds.items (code made.items)
-as_state (states.Returned ds made) = machine.Returned ds.items (code made.items)
-as_state (states.Closing ds made) = machine.Closing ds.items (code made.items)
 as_state (states.Over file parts) = machine.Over (as_file file) (as_parts parts.items)
 
 -- the state is what the machine comes to, where there is memory

@@ -1,64 +1,15 @@
-//! The end of `main`, and the groups behind it.
+//! Groups behind `main`, and the end of a file.
 #![tactic(auto)]
 
 ghost use Rattle.std.specs.Prelude.{◌≡◌, [], ◌∷◌, IfOk, MatchOption, option_map};
-ghost use Rattle.c_tree.specs.View.{code};
 ghost use Rattle.c_grammar.specs.Machine as machine;
 ghost use Rattle.c_grammar.specs.declared.items.Sign.TheVariants as signs;
 ghost use Rattle.item_reader.specs.Views.{as_file, as_parts, as_state, as_tailing, Moves};
 
 use crate::states::{File, ReadingState, Tailing};
 use c_grammar::Sign;
-use c_tree::{Declared, Stmt};
-use fam_outer::{NoMemory, Place};
+use fam_outer::NoMemory;
 use std::alloc::Global;
-
-/// Behind `return`, which leaves a statement that does nothing.
-#[tactic(auto, using(crate::proofs::Parts::code_skip))]
-pub(crate) fn returning(
-    place: Place,
-    declared: Vec<Declared>,
-    made: Vec<Stmt>,
-    sign: Sign,
-) -> Result<Option<ReadingState>, NoMemory>
-    ensures { Moves result (machine.returning place declared.items (code made.items) sign) }
-{
-    match sign {
-        Sign::Number(_) => {
-            let mut made = made;
-            made.push(Stmt::Skip { place })?;
-            Ok(Some(ReadingState::Returned { declared, made }))
-        }
-        _ => Ok(None),
-    }
-}
-
-/// Behind the `return` of `main`, whose brace comes.
-#[tactic(auto, using(crate::proofs::Parts::parts))]
-pub(crate) fn closing(
-    alloc: Global,
-    declared: Vec<Declared>,
-    made: Vec<Stmt>,
-    place: Place,
-    sign: Sign,
-) -> Option<ReadingState>
-    ensures { option_map as_state result ≡ machine.closing declared.items (code made.items) place sign }
-{
-    match sign {
-        Sign::RightBrace => {
-            let file = File {
-                declared,
-                body: made,
-                end: place,
-            };
-            Some(ReadingState::Over {
-                file,
-                parts: Vec::new(alloc),
-            })
-        }
-        _ => None,
-    }
-}
 
 /// The innermost part, and the others.
 #[tactic(auto, using(crate::proofs::Parts::parts))]

@@ -1,22 +1,20 @@
 //! Signs in an expression.
 #![tactic(auto)]
 
-ghost use Rattle.std.specs.Prelude.{◌≡◌, [], ◌∷◌, Some, option_map, IfOk};
-ghost use Rattle.c_tree.specs.Tree.{Assign, Done};
+ghost use Rattle.std.specs.Prelude.{◌≡◌, [], ◌∷◌, Some, option_map};
 ghost use Rattle.c_tree.specs.View.{term};
 ghost use Rattle.c_grammar.specs.Machine as machine;
 ghost use Rattle.c_grammar.specs.declared.items.Sign.TheVariants as signs;
-ghost use Rattle.item_reader.specs.Views.{Moves, as_frame, as_frames, as_purpose, as_stack, as_state};
+ghost use Rattle.item_reader.specs.Views.{Moves, as_frame, as_frames, as_purpose, as_state};
 
-use crate::changes::{assignment, closed_change, ended_change, updated};
 use crate::frames::{no_frames, prefix_of, settle, take_frame, tighter, with_frame};
-use crate::stacks::folded;
+use crate::purposes::{assigned, initialised, input_for, tested};
 use crate::states::ReadingState;
-use crate::unfinished::{Frame, Pending, Purpose, Site, Stack};
+use crate::unfinished::{Frame, Purpose};
 use crate::words::Prefix;
 use c_grammar::Sign;
-use c_tree::{Expr, Op, Stmt};
-use fam_outer::{NoMemory, Place};
+use c_tree::{Expr, Op};
+use fam_outer::NoMemory;
 use std::alloc::Global;
 
 /// One more waits, and an operand comes.
@@ -50,39 +48,6 @@ fn input_of(mut frames: Vec<Frame>, purpose: Purpose) -> Option<ReadingState>
         None => input_for(purpose),
         Some(_) => None,
     }
-}
-
-/// The name of a function, whose call is the whole expression.
-#[tactic(auto, using(crate::proofs::Holding::holding))]
-fn input_for(purpose: Purpose) -> Option<ReadingState>
-    ensures { option_map as_state result ≡ machine.input_of [] (as_purpose purpose) }
-{
-    let pending = match purpose {
-        Purpose::ToAssign {
-            place,
-            target,
-            site,
-        } => Pending::OfStatement {
-            site,
-            statement: Stmt::Input { place, target },
-        },
-        Purpose::ToInitialise {
-            kind,
-            place,
-            target,
-            outer,
-        } => Pending::OfLocal {
-            kind,
-            outer,
-            statement: Stmt::Input { place, target },
-        },
-        Purpose::ToUpdate { .. }
-        | Purpose::ToAssert { .. }
-        | Purpose::ToChoose { .. }
-        | Purpose::ToLoop { .. }
-        | Purpose::ToRepeat { .. } => return None,
-    };
-    Some(ReadingState::CallOpens { pending })
 }
 
 /// What a sign leads to where an operand comes.
@@ -122,62 +87,6 @@ fn prefixed(frames: Vec<Frame>, purpose: Purpose, op: Op) -> Result<Option<Readi
     }
 }
 
-/// The loop with this test and without a step begins.
-fn looped(
-    alloc: Global,
-    place: Place,
-    test: Expr,
-    outer: Stack,
-) -> Result<Option<ReadingState>, NoMemory>
-    ensures { Moves result (Some (machine.Ready
-        (machine.LoopOf Done place (term test) Done (as_stack outer)))) }
-{
-    let outer = Stack::LoopOf {
-        start: Vec::new(alloc),
-        place,
-        test,
-        advance: Vec::new(alloc),
-        outer: Box::new(alloc, outer)?,
-    };
-    Ok(Some(ReadingState::Ready { outer }))
-}
-
-/// The expression before a closing parenthesis is whole.
-fn tested(alloc: Global, purpose: Purpose, test: Expr) -> Result<Option<ReadingState>, NoMemory>
-    ensures { Moves result (machine.tested (as_purpose purpose) (term test)) }
-{
-    match purpose {
-        Purpose::ToAssign {
-            place,
-            target,
-            site,
-        } => closed_change(alloc, site, assignment(place, target, test)),
-        Purpose::ToUpdate {
-            place,
-            target,
-            update,
-            site,
-        } => closed_change(alloc, site, updated(alloc, place, target, update, test)?),
-        Purpose::ToAssert { place, outer } => {
-            let pending = Pending::OfStatement {
-                site: Site::AsStatement { outer },
-                statement: Stmt::Assert { place, test },
-            };
-            Ok(Some(ReadingState::Finishing { pending }))
-        }
-        Purpose::ToChoose { place, outer } => {
-            let outer = Stack::ThenOf {
-                place,
-                test,
-                outer: Box::new(alloc, outer)?,
-            };
-            Ok(Some(ReadingState::Ready { outer }))
-        }
-        Purpose::ToLoop { place, outer } => looped(alloc, place, test, outer),
-        Purpose::ToInitialise { .. } | Purpose::ToRepeat { .. } => Ok(None),
-    }
-}
-
 /// A closing parenthesis behind an operand, with all operators applied.
 fn closed_by(
     alloc: Global,
@@ -198,59 +107,6 @@ fn closed_by(
     }
 }
 
-/// The list with a variable that is declared with this value.
-fn with_local(
-    alloc: Global,
-    place: Place,
-    target: u32,
-    value: Expr,
-    outer: Stack,
-) -> Result<Stack, NoMemory>
-    ensures { IfOk result (λ made. as_stack made
-        ≡ machine.folded (as_stack outer) (Assign place target (term value) Done)) }
-{
-    folded(alloc, outer, assignment(place, target, value))
-}
-
-/// The expression before a semicolon is whole.
-fn assigned(alloc: Global, purpose: Purpose, value: Expr) -> Result<Option<ReadingState>, NoMemory>
-    ensures { Moves result (machine.assigned (as_purpose purpose) (term value)) }
-{
-    match purpose {
-        Purpose::ToAssign {
-            place,
-            target,
-            site,
-        } => ended_change(alloc, site, assignment(place, target, value)),
-        Purpose::ToInitialise {
-            kind: _kind,
-            place,
-            target,
-            outer,
-        } => {
-            let outer = with_local(alloc, place, target, value, outer)?;
-            Ok(Some(ReadingState::Ready { outer }))
-        }
-        Purpose::ToUpdate {
-            place,
-            target,
-            update,
-            site,
-        } => ended_change(alloc, site, updated(alloc, place, target, update, value)?),
-        Purpose::ToRepeat {
-            start,
-            place,
-            outer,
-        } => Ok(Some(ReadingState::StepComes {
-            start,
-            place,
-            test: value,
-            outer,
-        })),
-        Purpose::ToAssert { .. } | Purpose::ToChoose { .. } | Purpose::ToLoop { .. } => Ok(None),
-    }
-}
-
 /// A semicolon behind an operand, with all operators applied.
 fn ended_by(
     alloc: Global,
@@ -263,33 +119,6 @@ fn ended_by(
     match take_frame(&mut frames) {
         None => assigned(alloc, purpose, operand),
         Some(_) => Ok(None),
-    }
-}
-
-/// The initialiser of a variable is whole, and another declarator comes.
-fn initialised(
-    alloc: Global,
-    purpose: Purpose,
-    value: Expr,
-) -> Result<Option<ReadingState>, NoMemory>
-    ensures { Moves result (machine.initialised (as_purpose purpose) (term value)) }
-{
-    match purpose {
-        Purpose::ToInitialise {
-            kind,
-            place,
-            target,
-            outer,
-        } => {
-            let outer = with_local(alloc, place, target, value, outer)?;
-            Ok(Some(ReadingState::NextLocal { kind, outer }))
-        }
-        Purpose::ToAssign { .. }
-        | Purpose::ToUpdate { .. }
-        | Purpose::ToAssert { .. }
-        | Purpose::ToChoose { .. }
-        | Purpose::ToLoop { .. }
-        | Purpose::ToRepeat { .. } => Ok(None),
     }
 }
 

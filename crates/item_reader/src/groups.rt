@@ -74,7 +74,8 @@ pub(crate) fn opened(
     ensures { Moves result (machine.opened number (as_stack outer)) }
 {
     match outer {
-        Stack::ThenOf { .. } | Stack::ElseOf { .. } | Stack::LoopOf { .. } => Ok(None),
+        Stack::ThenOf { .. } | Stack::ElseOf { .. } | Stack::LoopOf { .. } | Stack::DoOf { .. } =>
+            Ok(None),
         list => part_in(alloc, number, list),
     }
 }

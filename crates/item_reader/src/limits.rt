@@ -23,22 +23,24 @@ fn depth(outer: &Stack) -> usize
         Stack::Braces { outer, .. }
         | Stack::ThenOf { outer, .. }
         | Stack::ElseOf { outer, .. }
-        | Stack::LoopOf { outer, .. } => depth(outer).saturating_add(1),
+        | Stack::LoopOf { outer, .. }
+        | Stack::DoOf { outer, .. } => depth(outer).saturating_add(1),
         Stack::Yes { links, outer, .. } | Stack::No { links, outer, .. } => depth(outer)
             .saturating_add(links.len())
             .saturating_add(1),
     }
 }
 
-/// How many are around what comes behind a statement that has ended.
+/// How many are around what comes behind a statement that has ended: nothing is opened before the test of a `do`.
 fn depth_behind(outer: &Stack) -> usize
     ensures { (statement : Code) → result
-        ≡ capped (limits.depth (machine.folded (as_stack outer.now) statement)) }
+        ≡ capped (limits.onward_depth (machine.placed (as_stack outer.now) statement)) }
 {
     match outer {
         Stack::ThenOf { outer, .. } | Stack::ElseOf { outer, .. } | Stack::LoopOf { outer, .. } => {
             depth_behind(outer)
         }
+        Stack::DoOf { .. } => 0,
         _ => depth(outer),
     }
 }
@@ -93,7 +95,13 @@ fn opens_more(sign: Sign) -> bool
 {
     matches!(
         sign,
-        Sign::If | Sign::While | Sign::For | Sign::LeftBrace | Sign::GroupIf(_) | Sign::GroupElif(_)
+        Sign::If
+            | Sign::While
+            | Sign::For
+            | Sign::Do
+            | Sign::LeftBrace
+            | Sign::GroupIf(_)
+            | Sign::GroupElif(_)
     )
 }
 
@@ -104,22 +112,26 @@ fn is_operator(sign: Sign) -> bool
     matches!(sign, Sign::Oper(_) | Sign::Bang | Sign::Open)
 }
 
-/// Whether what comes belongs to an expression. Behind the start of a `for` it may be the first of one.
+/// Whether what comes belongs to an expression. Behind the start of a `for` it may be the first of one, and the test of a `do`
+/// begins with it.
 fn in_expression(state: &ReadingState) -> bool
     ensures { result ≡ limits.in_expression (as_state state.now) }
 {
     matches!(
         state,
-        ReadingState::Wants { .. } | ReadingState::Has { .. } | ReadingState::TestComes { .. }
+        ReadingState::Wants { .. }
+            | ReadingState::Has { .. }
+            | ReadingState::TestComes { .. }
+            | ReadingState::RedoComes { .. }
     )
 }
 
-/// How many operators and opening parentheses the expression has so far. The test of a `for` is one of its own.
+/// How many operators and opening parentheses the expression has so far. The test of a `for` or of a `do` is one of its own.
 fn so_far(state: &ReadingState, count: u32) -> u32
     ensures { result ≡ limits.so_far (as_state state.now) count }
 {
     match state {
-        ReadingState::TestComes { .. } => 0,
+        ReadingState::TestComes { .. } | ReadingState::RedoComes { .. } => 0,
         _ => count,
     }
 }

@@ -2,10 +2,10 @@
 #![tactic(auto, using(crate::proofs::Holding::holding))]
 
 ghost use Rattle.std.specs.Prelude.{◌≡◌, IfOk};
-ghost use Rattle.c_tree.specs.Tree.{Block, Cond, Done, If, While, followed};
-ghost use Rattle.c_tree.specs.View.{code, front, term};
+ghost use Rattle.c_tree.specs.Tree.{Block, Cond, Do, Done, If, Leave, While, followed};
+ghost use Rattle.c_tree.specs.View.{code, front, jump_of, term};
 
-use c_tree::{Expr, Stmt};
+use c_tree::{Expr, Jump, Stmt};
 use fam_outer::{NoMemory, Place};
 use std::alloc::Global;
 
@@ -79,6 +79,25 @@ pub(crate) fn loop_behind(
         body,
     })?;
     Ok(start)
+}
+
+/// A loop that does its body before its first test.
+pub(crate) fn do_while(place: Place, body: Vec<Stmt>, test_place: Place, test: Expr) -> Stmt
+    ensures { front result Done ≡ Do place (code body.items) test_place (term test) Done }
+{
+    Stmt::Do {
+        place,
+        body,
+        test_place,
+        test,
+    }
+}
+
+/// A jump.
+pub(crate) fn leave(place: Place, jump: Jump) -> Stmt
+    ensures { front result Done ≡ Leave place (jump_of jump) Done }
+{
+    Stmt::Leave { place, jump }
 }
 
 /// A block.

@@ -27,7 +27,8 @@ pub(crate) fn in_list(outer: Stack) -> Option<Stack>
         ≡ machine.in_list (as_stack outer) next }
 {
     match outer {
-        Stack::ThenOf { .. } | Stack::ElseOf { .. } | Stack::LoopOf { .. } => None,
+        Stack::ThenOf { .. } | Stack::ElseOf { .. } | Stack::LoopOf { .. } | Stack::DoOf { .. } =>
+            None,
         list => Some(list),
     }
 }

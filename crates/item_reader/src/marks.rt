@@ -38,6 +38,16 @@ pub(crate) fn at_semicolon(next: ReadingState, sign: Sign) -> Option<ReadingStat
     }
 }
 
+/// The state behind `while`.
+pub(crate) fn at_while(next: ReadingState, sign: Sign) -> Option<ReadingState>
+    ensures { option_map as_state result ≡ machine.at_while (as_state next) sign }
+{
+    match sign {
+        Sign::While => Some(next),
+        _ => None,
+    }
+}
+
 /// The state behind `void`.
 pub(crate) fn at_void(next: ReadingState, sign: Sign) -> Option<ReadingState>
     ensures { option_map as_state result ≡ machine.at_void (as_state next) sign }

@@ -27,7 +27,8 @@ use std::alloc::Global;
 /// of the groups around it. Any other declarator in `main` is a statement: it assigns its initialiser, and without one any
 /// value, as that of an input is.
 /// A `for` is what it does before its first test, if anything, and then a loop with its test and its step; the loop has the
-/// place of the test, and a test that is left out is 1, at the semicolon.
+/// place of the test, and a test that is left out is 1, at the semicolon. A `do` does its body before its first test. `break`
+/// and `continue` stand in a loop, and `return`, with an expression, where any statement may.
 ///
 /// The conditions are that the items name these names alone, that the numbers are from 0 to 2147483647, and that the
 /// places rise. With at most 48 names the program is well formed.
@@ -37,8 +38,9 @@ use std::alloc::Global;
 /// - `Wrong(n)`: no file goes on with item `n`, whichever names it has, though some file goes on with the items before
 ///   it. Where `n` is the number of the items, some file goes on with all of them, but none ends behind them.
 /// - `Deep(n)`: some file goes on with item `n`, but none within the limits: it opens an `if`, a `while`, a `for`, a
-///   block, a group or the next part of a group inside 64 of these, or it is the 65th operator or opening parenthesis of an
-///   expression. The brace of `main` is no block, and each `#elif` counts as one more around what follows in its section.
+///   `do`, a block, a group or the next part of a group inside 64 of these, or it is the 65th operator or opening parenthesis
+///   of an expression. The brace of `main` is no block, and each `#elif` counts as one more around what follows in its
+///   section.
 /// - `NoMemory`: want of memory, and nothing else.
 pub fn read_items(alloc: Global, names: Names, items: &[Item]) -> Result<Program, UnreadRefusal>
     requires fit { AreFit (length names) items.now }

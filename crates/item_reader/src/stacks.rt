@@ -5,17 +5,17 @@ ghost use Rattle.std.specs.Prelude.{◌≡◌, IfOk};
 ghost use Rattle.c_tree.specs.Tree.{Done};
 ghost use Rattle.c_tree.specs.View.{code, front, term};
 ghost use Rattle.c_grammar.specs.Machine as machine;
-ghost use Rattle.item_reader.specs.Views.{Moves, as_stack, as_state};
+ghost use Rattle.item_reader.specs.Views.{Moves, as_onward, as_stack, as_state};
 
 use crate::lists::{if_else, if_then, loop_behind, only, with_statements};
 use crate::states::ReadingState;
-use crate::unfinished::Stack;
+use crate::unfinished::{Onward, Stack};
 use c_tree::{Expr, Stmt};
 use fam_outer::{NoMemory, Place};
 use std::alloc::Global;
 
-/// The statements are put where they belong, and no `else` comes.
-fn folded_list(alloc: Global, stack: Stack, statements: Vec<Stmt>) -> Result<Stack, NoMemory>
+/// The statements are put into the list that is open: what a declarator makes stands in lists alone.
+fn folded_list(stack: Stack, statements: Vec<Stmt>) -> Result<Stack, NoMemory>
     ensures { IfOk result (λ made. as_stack made
         ≡ machine.folded (as_stack stack) (code statements.items)) }
 {
@@ -58,9 +58,27 @@ fn folded_list(alloc: Global, stack: Stack, statements: Vec<Stmt>) -> Result<Sta
                 outer,
             })
         }
+        other => Ok(other),
+    }
+}
+
+/// The statement of a declarator is put into the list that is open.
+pub(crate) fn folded(alloc: Global, stack: Stack, statement: Stmt) -> Result<Stack, NoMemory>
+    ensures { IfOk result (λ made. as_stack made ≡ machine.folded (as_stack stack) (front statement Done)) }
+{
+    let statements = only(alloc, statement)?;
+    folded_list(stack, statements)
+}
+
+/// The statements are put where they belong, and no `else` comes.
+fn placed_list(alloc: Global, stack: Stack, statements: Vec<Stmt>) -> Result<Onward, NoMemory>
+    ensures { IfOk result (λ made. as_onward made
+        ≡ machine.placed (as_stack stack) (code statements.items)) }
+{
+    match stack {
         Stack::ThenOf { place, test, outer } => {
             let statements = if_then(alloc, place, test, statements)?;
-            folded_list(alloc, Box::into_inner(outer), statements)
+            placed_list(alloc, Box::into_inner(outer), statements)
         }
         Stack::ElseOf {
             place,
@@ -69,7 +87,7 @@ fn folded_list(alloc: Global, stack: Stack, statements: Vec<Stmt>) -> Result<Sta
             outer,
         } => {
             let statements = if_else(alloc, place, test, first, statements)?;
-            folded_list(alloc, Box::into_inner(outer), statements)
+            placed_list(alloc, Box::into_inner(outer), statements)
         }
         Stack::LoopOf {
             start,
@@ -79,17 +97,26 @@ fn folded_list(alloc: Global, stack: Stack, statements: Vec<Stmt>) -> Result<Sta
             outer,
         } => {
             let statements = loop_behind(start, place, test, advance, statements)?;
-            folded_list(alloc, Box::into_inner(outer), statements)
+            placed_list(alloc, Box::into_inner(outer), statements)
+        }
+        Stack::DoOf { place, outer } => Ok(Onward::AtTest {
+            place,
+            body: statements,
+            outer: Box::into_inner(outer),
+        }),
+        list => {
+            let outer = folded_list(list, statements)?;
+            Ok(Onward::InList { outer })
         }
     }
 }
 
 /// The statement is put where it belongs, and no `else` comes.
-pub(crate) fn folded(alloc: Global, stack: Stack, statement: Stmt) -> Result<Stack, NoMemory>
-    ensures { IfOk result (λ made. as_stack made ≡ machine.folded (as_stack stack) (front statement Done)) }
+pub(crate) fn placed(alloc: Global, stack: Stack, statement: Stmt) -> Result<Onward, NoMemory>
+    ensures { IfOk result (λ made. as_onward made ≡ machine.placed (as_stack stack) (front statement Done)) }
 {
     let statements = only(alloc, statement)?;
-    folded_list(alloc, stack, statements)
+    placed_list(alloc, stack, statements)
 }
 
 /// The side of an `if` behind `else` comes.
@@ -116,7 +143,11 @@ fn else_of_list(
     ensures { Moves result (machine.else_of (as_stack stack) (code statements.items)) }
 {
     match stack {
-        Stack::Top { .. } | Stack::Braces { .. } | Stack::Yes { .. } | Stack::No { .. } => Ok(None),
+        Stack::Top { .. }
+        | Stack::Braces { .. }
+        | Stack::Yes { .. }
+        | Stack::No { .. }
+        | Stack::DoOf { .. } => Ok(None),
         Stack::ThenOf { place, test, outer } => {
             Ok(Some(other_side(place, test, statements, outer)))
         }

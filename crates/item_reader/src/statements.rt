@@ -6,20 +6,22 @@ ghost use Rattle.c_tree.specs.Tree.{Done, Skip};
 ghost use Rattle.c_tree.specs.View.{front};
 ghost use Rattle.c_grammar.specs.Grammar as grammar;
 ghost use Rattle.c_grammar.specs.Machine as machine;
-ghost use Rattle.item_reader.specs.Views.{Moves, as_count, as_purpose, as_site, as_stack, as_state, as_update};
+ghost use Rattle.item_reader.specs.Views.{Moves, as_count, as_onward, as_purpose, as_site, as_stack, as_state, as_update};
 
 use crate::changes::changed_by_one;
 use crate::expressions::expected;
 use crate::groups::{group_end, last_part, next_part, opened};
+use crate::jumps::{do_in, leaving, return_in};
 use crate::lists::block;
 use crate::locals::{const_in, type_in};
-use crate::stacks::{else_of, folded};
+use crate::marks::at_while;
+use crate::stacks::{else_of, placed};
 use crate::states::{File, ReadingState};
 use crate::statics::static_in;
-use crate::unfinished::{Pending, Purpose, Site, Stack};
+use crate::unfinished::{Onward, Pending, Purpose, Site, Stack};
 use crate::words::{Count, TypeWords, Update};
 use c_grammar::Sign;
-use c_tree::Stmt;
+use c_tree::{Jump, Stmt};
 use fam_outer::{NoMemory, Place};
 use std::alloc::Global;
 
@@ -40,20 +42,6 @@ fn braced(alloc: Global, outer: Stack, end: Place) -> Option<ReadingState>
         Stack::Braces { place, made, outer } => Some(ReadingState::Ended {
             outer: Box::into_inner(outer),
             statement: block(place, made),
-        }),
-        _ => None,
-    }
-}
-
-/// `return`, in the list of `main` alone.
-fn returned(outer: Stack, place: Place) -> Option<ReadingState>
-    ensures { option_map as_state result ≡ machine.returned (as_stack outer) place }
-{
-    match outer {
-        Stack::Top { declared, made } => Some(ReadingState::Returning {
-            place,
-            declared,
-            made,
         }),
         _ => None,
     }
@@ -137,7 +125,10 @@ pub(crate) fn begin(
         Sign::If => Ok(opens(Purpose::ToChoose { place, outer })),
         Sign::While => Ok(opens(Purpose::ToLoop { place, outer })),
         Sign::For => Ok(Some(ReadingState::ForOpens { outer })),
-        Sign::Return => Ok(returned(outer, place)),
+        Sign::Do => do_in(alloc, outer, place),
+        Sign::Break => Ok(leaving(outer, place, Jump::Break)),
+        Sign::Continue => Ok(leaving(outer, place, Jump::Continue)),
+        Sign::Return => Ok(Some(return_in(alloc, outer, place))),
         Sign::GroupIf(number) => opened(alloc, number, outer),
         Sign::GroupElif(number) => next_part(alloc, number, outer),
         Sign::GroupElse => Ok(last_part(alloc, outer)),
@@ -146,19 +137,45 @@ pub(crate) fn begin(
     }
 }
 
+/// What a sign leads to behind a statement, where no `else` comes.
+fn proceed(
+    alloc: Global,
+    onward: Onward,
+    place: Place,
+    sign: Sign,
+) -> Result<Option<ReadingState>, NoMemory>
+    ensures { Moves result (machine.proceed (as_onward onward) place sign) }
+{
+    match onward {
+        Onward::InList { outer } => begin(alloc, outer, place, sign),
+        Onward::AtTest {
+            place: first,
+            body,
+            outer,
+        } => {
+            let next = ReadingState::RedoOpens {
+                place: first,
+                body,
+                outer,
+            };
+            Ok(at_while(next, sign))
+        }
+    }
+}
+
 /// No `else` comes behind a statement.
-fn begin_behind(
+fn proceed_behind(
     alloc: Global,
     outer: Stack,
     statement: Stmt,
     place: Place,
     sign: Sign,
 ) -> Result<Option<ReadingState>, NoMemory>
-    ensures { Moves result (machine.begin
-        (machine.folded (as_stack outer) (front statement Done)) place sign) }
+    ensures { Moves result (machine.proceed
+        (machine.placed (as_stack outer) (front statement Done)) place sign) }
 {
-    let outer = folded(alloc, outer, statement)?;
-    begin(alloc, outer, place, sign)
+    let onward = placed(alloc, outer, statement)?;
+    proceed(alloc, onward, place, sign)
 }
 
 /// What a sign leads to behind a statement.
@@ -173,7 +190,7 @@ pub(crate) fn on(
 {
     match sign {
         Sign::Else => else_of(alloc, outer, statement),
-        _ => begin_behind(alloc, outer, statement, place, sign),
+        _ => proceed_behind(alloc, outer, statement, place, sign),
     }
 }
 

@@ -253,6 +253,17 @@ pub(crate) enum ReadingState {
         test: Expr,
         outer: Stack,
     },
+    /// Behind the body of a `do` and `while`, and behind the parenthesis before its test.
+    RedoOpens {
+        place: Place,
+        body: Vec<Stmt>,
+        outer: Stack,
+    },
+    RedoComes {
+        place: Place,
+        body: Vec<Stmt>,
+        outer: Stack,
+    },
     /// Behind the parenthesis at the front of a statement, behind `void` in it, and behind both parentheses: a call comes,
     /// whose value is dropped.
     VoidComes {
@@ -277,20 +288,6 @@ pub(crate) enum ReadingState {
     /// The end of a change comes, the semicolon of another statement, or the end of a declarator.
     Finishing {
         pending: Pending,
-    },
-    /// Behind `return`, behind its number, and before the closing brace of `main`.
-    Returning {
-        place: Place,
-        declared: Vec<Declared>,
-        made: Vec<Stmt>,
-    },
-    Returned {
-        declared: Vec<Declared>,
-        made: Vec<Stmt>,
-    },
-    Closing {
-        declared: Vec<Declared>,
-        made: Vec<Stmt>,
     },
     /// `main` is closed, and these groups are open.
     Over {

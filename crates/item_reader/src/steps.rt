@@ -12,12 +12,13 @@ use crate::declarations::{is_bare, listing, negating, started, starting};
 use crate::definitions::{
     after_define, defining, enclosed, enclosing, negative_defining, negative_enclosing,
 };
-use crate::endings::{closing, over, returning};
+use crate::endings::over;
 use crate::expressions::{expected, have, want};
 use crate::for_headers::{start_comes, step_comes, test_comes};
 use crate::heads::{
     after_enum, after_type, behind_extern, behind_static, behind_void, declaring, first_word,
 };
+use crate::jumps::redo_comes;
 use crate::locals::{const_word, finishing, local_named, local_type, next_local};
 use crate::marks::{at_close, at_function, at_open, at_semicolon, at_void};
 use crate::parameters::{after_parameters, in_parameters};
@@ -266,6 +267,38 @@ fn step_header(
             test,
             outer,
         } => step_comes(alloc, start, first, test, outer, place, sign),
+        other => step_redo(alloc, other, place, sign),
+    }
+}
+
+/// The step of a state from the test of a `do` on.
+fn step_redo(
+    alloc: Global,
+    state: ReadingState,
+    place: Place,
+    sign: Sign,
+) -> Result<Option<ReadingState>, NoMemory>
+    requires { 7 ≤ stage (as_state state) }
+    ensures { Moves result (machine.step (as_state state) place sign) }
+{
+    match state {
+        ReadingState::RedoOpens {
+            place: first,
+            body,
+            outer,
+        } => {
+            let next = ReadingState::RedoComes {
+                place: first,
+                body,
+                outer,
+            };
+            Ok(at_open(next, sign))
+        }
+        ReadingState::RedoComes {
+            place: first,
+            body,
+            outer,
+        } => redo_comes(alloc, first, body, outer, place, sign),
         other => step_call(alloc, other, place, sign),
     }
 }
@@ -277,7 +310,7 @@ fn step_call(
     place: Place,
     sign: Sign,
 ) -> Result<Option<ReadingState>, NoMemory>
-    requires { 7 ≤ stage (as_state state) }
+    requires { 8 ≤ stage (as_state state) }
     ensures { Moves result (machine.step (as_state state) place sign) }
 {
     match state {
@@ -316,11 +349,11 @@ fn call_comes(place: Place, outer: Stack, sign: Sign) -> Option<ReadingState>
 fn step_edge(
     alloc: Global,
     state: ReadingState,
-    place: Place,
+    _place: Place,
     sign: Sign,
 ) -> Result<Option<ReadingState>, NoMemory>
-    requires { 8 ≤ stage (as_state state) }
-    ensures { Moves result (machine.step (as_state state) place sign) }
+    requires { 9 ≤ stage (as_state state) }
+    ensures { Moves result (machine.step (as_state state) _place sign) }
 {
     match state {
         ReadingState::Parameters { aim } => Ok(at_open(ReadingState::InParameters { aim }, sign)),
@@ -330,15 +363,6 @@ fn step_edge(
             sign,
         )),
         ReadingState::AfterParameters { aim } => Ok(after_parameters(alloc, aim, sign)),
-        ReadingState::Returning {
-            place,
-            declared,
-            made,
-        } => returning(place, declared, made, sign),
-        ReadingState::Returned { declared, made } => {
-            Ok(at_semicolon(ReadingState::Closing { declared, made }, sign))
-        }
-        ReadingState::Closing { declared, made } => Ok(closing(alloc, declared, made, place, sign)),
         ReadingState::Over { file, parts } => over(alloc, file, parts, sign),
         _other => Ok(None),
     }

@@ -22,7 +22,7 @@ pub(crate) struct Link {
 
 /// The statements and groups that are open, the innermost first. A list has the statements that it has so far. `Top` is
 /// the list of `main`, behind the declarators. `Yes` is a part with a condition, and `No` the part behind `#else`. A loop has
-/// what stands before its first test, and its step.
+/// what stands before its first test, and its step. Of a `do` the body is read.
 #[derive(Drop)]
 pub(crate) enum Stack {
     Top {
@@ -65,6 +65,23 @@ pub(crate) enum Stack {
         advance: Vec<Stmt>,
         outer: Box<Stack>,
     },
+    DoOf {
+        place: Place,
+        outer: Box<Stack>,
+    },
+}
+
+/// What comes behind a statement, where no `else` does: more of a list, or the test of a `do`, behind its body.
+#[derive(Drop)]
+pub(crate) enum Onward {
+    InList {
+        outer: Stack,
+    },
+    AtTest {
+        place: Place,
+        body: Vec<Stmt>,
+        outer: Stack,
+    },
 }
 
 /// Where a change of a variable stands: as a statement, before the first test of a `for`, or behind its test.
@@ -85,7 +102,7 @@ pub(crate) enum Site {
 }
 
 /// What an expression is for. The initialiser of a variable that `main` declares has what its declaration declares, and the
-/// test of a `for` what stands before it.
+/// test of a `for` what stands before it. That of a `do` has its body, and its own place.
 #[derive(Drop)]
 pub(crate) enum Purpose {
     ToAssign {
@@ -119,6 +136,16 @@ pub(crate) enum Purpose {
     },
     ToRepeat {
         start: Vec<Stmt>,
+        place: Place,
+        outer: Stack,
+    },
+    ToRedo {
+        place: Place,
+        body: Vec<Stmt>,
+        test_place: Place,
+        outer: Stack,
+    },
+    ToReturn {
         place: Place,
         outer: Stack,
     },

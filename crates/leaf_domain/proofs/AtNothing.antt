@@ -4,7 +4,7 @@ use Rattle.c_tree.specs.declared.tree.Kind.{Kind}
 use Rattle.c_tree.specs.declared.tree.Kind.TheVariants.{Overflow, ZeroDivisor, Assertion}
 use Rattle.c_tree.specs.declared.tree.Mode.{Mode}
 use Rattle.c_tree.specs.declared.tree.Op.TheVariants.{Add, Sub, Mul, Div, Rem, Lt, Le, Gt, Ge, Eq, Ne, And, Or}
-use Rattle.c_tree.specs.Tree.{Term, Number, Var, Neg, Not, Binary, Done, Assign, Input, Assert, If, While, Block, Skip, Cond}
+use Rattle.c_tree.specs.Tree.{Term, Number, Var, Neg, Not, Binary, Jump, Break, Continue, Return, Done, Assign, Input, Assert, If, While, Do, Leave, Block, Skip, Cond}
 use Rattle.leaf_domain.specs.declared.range.Range.{Range}
 use Rattle.leaf_domain.specs.Ranges.{empty_range}
 use Rattle.leaf_domain.specs.Leaves.{LeafValue, LeafMeaning, nothing_of, is_nothing_of}
@@ -89,6 +89,10 @@ nothing_stops M mode ZeroDivisor (Assert place e rest) v h = no_stop_at_nothing 
 nothing_stops M mode Assertion (Assert place e rest) v h = at_nothing v _ h
 nothing_stops M mode kind (If place e p q rest) v h = no_value_stop M mode kind e v h
 nothing_stops M mode kind (While place e step body rest) v h = no_value_stop M mode kind e v h
+nothing_stops M mode kind (Do place body at e rest) v h = refl
+nothing_stops M mode kind (Leave place Break rest) v h = refl
+nothing_stops M mode kind (Leave place Continue rest) v h = refl
+nothing_stops M mode kind (Leave place (Return e) rest) v h = no_value_stop M mode kind e v h
 nothing_stops M mode kind (Block place body rest) v h = refl
 nothing_stops M mode kind (Skip place rest) v h = refl
 nothing_stops M mode kind (Cond number p q rest) v h = refl

@@ -13,7 +13,7 @@ use Rattle.leaf_domain.specs.Transfer.{range_where_some, fits_term, is_inside}
 use Rattle.leaf_domain.specs.Soundness.{FormsAreForms, TransferHolds}
 use Rattle.leaf_domain.proofs.Results.{gives, in_range_of_int, wrapped_int, and_left, and_right, int_inside}
 use Rattle.leaf_domain.proofs.Comparisons.{held}
-use Rattle.leaf_domain.proofs.SoundLemmas.{range_within, assumed_holds, assigned_holds, forgotten_holds}
+use Rattle.leaf_domain.proofs.SoundLemmas.{range_within, assumed_holds, assigned_holds, valued_holds, forgotten_holds}
 use Rattle.leaf_domain.proofs.SoundStops.{raw_neg, raw_add, raw_sub, raw_mul, code_may}
 
 -- an expression has a value, and the same one in both modes
@@ -69,6 +69,7 @@ module _ (M : LeafMeaning) (laws : LeafLaws M) (forms : FormsAreForms) where
     range_holds = range_within M laws mode forms;
     assumed_holds = assumed_holds M laws mode forms;
     assigned_holds = assigned_holds M laws mode forms;
+    valued_holds = valued_holds M laws mode forms;
     forgotten_holds = forgotten_holds M laws mode forms;
     may_holds = code_may M laws mode forms;
     fits_holds = λ e v s u w q f. let p = has_value e v s u.valid u.term w (subst (λ (m : Mode). fits_term M m e v ≡ true) q f) in (p.value, p.stop_is, p.wrap_is);

@@ -16,7 +16,7 @@ use Rattle.leaf_domain.specs.Ranges.{Within, IsInInt, exact, range_at, is_empty_
 use Rattle.leaf_domain.specs.Operations.{Operates}
 use Rattle.leaf_domain.specs.Forms.{form_of_term}
 use Rattle.leaf_domain.specs.Leaves.{LeafValue, LeafMeaning, LeafLaws, IsLeafLike, nothing_of, is_nothing_of}
-use Rattle.leaf_domain.specs.Transfer.{transfer, fits_in, form_where, numeric, divided, negated_range, operation_at_leaf, range_at_leaf, operation_range_of, narrowed_by, range_of_term, fits_term, operation_of_term, assumed, assigned, operation_set, form_set, forgotten}
+use Rattle.leaf_domain.specs.Transfer.{transfer, fits_in, form_where, numeric, divided, negated_range, operation_at_leaf, range_at_leaf, operation_range_of, narrowed_by, range_of_term, fits_term, operation_of_term, assumed, assigned, operation_set, form_set, valued, forgotten}
 use Rattle.leaf_domain.specs.Soundness.{FormsAreForms, IsWanted, Suits, TransferAnswers}
 use Rattle.leaf_domain.proofs.ArithmeticLemmas.{arithmetic_holds, not_empty}
 use Rattle.leaf_domain.proofs.FormValues.{Comes, number_comes, variable_comes, neg_comes, add_comes, sub_comes, mul_comes}
@@ -279,6 +279,16 @@ module _ (M : LeafMeaning) (laws : LeafLaws M) (mode : Mode) (forms : FormsAreFo
       rw (not_empty n (range_of_term M mode e v) p) (form_set_holds x _ (operation_of_term M mode e v) (range_of_term M mode e v) v s n l u.valid (set_forms e v u) ((transfer_sound e).operations v u.valid u.term) ((transfer_sound e).range_in_int v u.valid u.term) w
       (comes_where s (fits_term M mode e v) (form_of_term e) n (λ f. (transfer_sound e).form_comes v s n u.valid u.term w f g)) ((transfer_sound e).operation_gives v s n u.valid u.term w g) p)
 
+  valued_answers : (e : Term) (v : LeafValue) → Suits M e v → IsLeafLike M v (valued M mode e v)
+  valued_answers e v u = by_test (is_empty_range (range_of_term M mode e v))
+    where
+      by_test : (t : Bool) → IsLeafLike M v (if t then nothing_of v.variables else v)
+      by_test true = nothing_answers M laws v u.valid
+      by_test false = record { valid = u.valid; same = refl }
+
+  pub valued_holds : (e : Term) (v : LeafValue) (s : List ℤ) (n : ℤ) → Suits M e v → M.holds v s → value_of e s mode ≡ Ok n → M.holds (valued M mode e v) s
+  valued_holds e v s n u w g = rw (not_empty n (range_of_term M mode e v) (range_within e v s n u w g)) w
+
   pub forgotten_holds : (x : ℕ) (v : LeafValue) (s : List ℤ) (n : ℤ) → x < v.variables → M.valid v → M.holds v s → IsInt n → M.holds (forgotten M x v) (slice_set s x n)
   forgotten_holds x v s n l h w i = laws.set_holds v x whole_int s n h l whole_in_int w (record { low = i.low; high = i.high })
 
@@ -290,14 +300,19 @@ module _ (M : LeafMeaning) (laws : LeafLaws M) (mode : Mode) (forms : FormsAreFo
   assigned_of_nothing : (x : ℕ) (e : Term) (v : LeafValue) → is_nothing_of v ≡ true → is_nothing_of (assigned M mode x e v) ≡ true
   assigned_of_nothing x e v h = ap (λ r. is_nothing_of (if is_empty_range r then nothing_of v.variables else form_set M x (form_where (fits_term M mode e v) (form_of_term e)) (operation_of_term M mode e v) r v)) (range_of_nothing M mode e v h)
 
+  valued_of_nothing : (e : Term) (v : LeafValue) → is_nothing_of v ≡ true → is_nothing_of (valued M mode e v) ≡ true
+  valued_of_nothing e v h = ap (λ r. is_nothing_of (if is_empty_range r then nothing_of v.variables else v)) (range_of_nothing M mode e v h)
+
   pub transfer_answers : TransferAnswers M mode
   transfer_answers = record {
     range_in_int = λ e v u. (transfer_sound e).range_in_int v u.valid u.term;
     assumed_answers = assumed_answers;
     assigned_answers = assigned_answers;
+    valued_answers = valued_answers;
     forgotten_answers = λ x v l h. laws.set_answers v x whole_int h l whole_in_int;
     range_of_nothing = range_of_nothing M mode;
     assumed_of_nothing = assumed_of_nothing M mode;
     assigned_of_nothing = assigned_of_nothing;
+    valued_of_nothing = valued_of_nothing;
     forgotten_of_nothing = forgotten_of_nothing;
   }

@@ -13,7 +13,7 @@ use Rattle.c_tree.specs.Tree as tree
 use Rattle.c_tree.specs.Tree.{Term, Number, Var, Neg, Not, Binary, Code}
 use Rattle.c_tree.specs.Value.{value_of, result_in, in_range, truth_of, least, IsInt, is_zero, quotient_of, remainder_of, ◌>>=◌}
 use Rattle.c_tree.specs.Fit.{IsTermOf, IsCodeOf}
-use Rattle.c_tree.specs.Run.{Outcome, Moved, Stopped, with_value, with_input, step_of, Standing}
+use Rattle.c_tree.specs.Run.{Outcome, Moved, Stopped, with_value, with_input, step_of, Standing, Level, standing}
 use Rattle.leaf_domain.specs.declared.range.Range.{Range}
 use Rattle.leaf_domain.specs.Ranges.{Within, is_empty_range}
 use Rattle.leaf_domain.specs.Forms.{form_of_term}
@@ -351,21 +351,21 @@ module _ (M : LeafMeaning) (laws : LeafLaws M) (mode : Mode) (forms : FormsAreFo
   moves : (s : Standing) (p : Place) (kind : Kind) → Moved s ≡ Stopped p kind → ⊥
   moves s p kind e = cc
 
-  assert_may : (place p : Place) (test : Term) (rest : Code) (kind : Kind) (v : LeafValue) (s : List ℤ) (taken : ℕ) → M.valid v → IsTermOf v.variables test → M.holds v s
-      → with_value place (value_of test s mode) (λ n. if is_zero n then Stopped place Assertion else Moved (record { todo = rest; store = s; taken = taken })) ≡ Stopped p kind
+  assert_may : (place p : Place) (test : Term) (rest : Code) (kind : Kind) (v : LeafValue) (levels : List Level) (s : List ℤ) (taken : ℕ) → M.valid v → IsTermOf v.variables test → M.holds v s
+      → with_value place (value_of test s mode) (λ n. if is_zero n then Stopped place Assertion else Moved (standing rest levels s taken)) ≡ Stopped p kind
       → (if is_of_value kind then may_term M mode kind test v else may_fail M mode test v) ≡ true
   unfolding Stops
-  assert_may place p test rest kind v s taken h o w g = by_value (value_of test s mode) refl g
+  assert_may place p test rest kind v levels s taken h o w g = by_value (value_of test s mode) refl g
     where
       fails : (n : ℤ) → value_of test s mode ≡ Ok n → n ≡ pos 0 → may_fail M mode test v ≡ true
       fails n d z = unless_held v s _ w (ap not (held M laws (assumed M mode test false v) s (assumed_holds M laws mode forms test false v s n (record { valid = h; term = o }) w d z)))
 
-      by_test : (n : ℤ) (t : Bool) → value_of test s mode ≡ Ok n → is_zero n ≡ t → (if t then Stopped place Assertion else Moved (record { todo = rest; store = s; taken = taken })) ≡ Stopped p kind
+      by_test : (n : ℤ) (t : Bool) → value_of test s mode ≡ Ok n → is_zero n ≡ t → (if t then Stopped place Assertion else Moved (standing rest levels s taken)) ≡ Stopped p kind
           → (if is_of_value kind then may_term M mode kind test v else may_fail M mode test v) ≡ true
       by_test n true d f e = let q : kind ≡ Assertion = cc in ap (λ k. if is_of_value k then may_term M mode k test v else may_fail M mode test v) q ∙ fails n d (zero_from_test n f)
       by_test n false d f e = absurd (moves _ p kind e)
 
-      by_value : (x : Result ℤ Kind) → value_of test s mode ≡ x → with_value place x (λ n. if is_zero n then Stopped place Assertion else Moved (record { todo = rest; store = s; taken = taken })) ≡ Stopped p kind
+      by_value : (x : Result ℤ Kind) → value_of test s mode ≡ x → with_value place x (λ n. if is_zero n then Stopped place Assertion else Moved (standing rest levels s taken)) ≡ Stopped p kind
           → (if is_of_value kind then may_term M mode kind test v else may_fail M mode test v) ≡ true
       by_value (Ok n) d e = by_test n (is_zero n) d refl e
       by_value (Err k) d e =
@@ -377,14 +377,18 @@ module _ (M : LeafMeaning) (laws : LeafLaws M) (mode : Mode) (forms : FormsAreFo
   input_moves place p kind (Some n) go e = cc
   input_moves place p kind None go e = cc
 
-  pub code_may : (c : Code) (v : LeafValue) (s inputs : List ℤ) (taken : ℕ) (place : Place) (kind : Kind) → M.valid v → IsCodeOf v.variables c → M.holds v s
-      → step_of mode inputs c s taken ≡ Stopped place kind → may_at M mode kind c v ≡ true
-  code_may tree.Done v s inputs taken p kind h o w g = cc
-  code_may (tree.Assign place x e rest) v s inputs taken p kind h o w g = test_may e kind v s h o.1 w (value_stops place p kind (value_of e s mode) _ (λ n. moves _ p kind) g)
-  code_may (tree.Input place x rest) v s inputs taken p kind h o w g = absurd (input_moves place p kind (slice_get inputs taken) _ g)
-  code_may (tree.Assert place e rest) v s inputs taken p kind h o w g = assert_may place p e rest kind v s taken h o.0 w g
-  code_may (tree.If place e yes_side no_side rest) v s inputs taken p kind h o w g = test_may e kind v s h o.0 w (value_stops place p kind (value_of e s mode) _ (λ n. moves _ p kind) g)
-  code_may (tree.While place e step body rest) v s inputs taken p kind h o w g = test_may e kind v s h o.0 w (value_stops place p kind (value_of e s mode) _ (λ n. moves _ p kind) g)
-  code_may (tree.Block place body rest) v s inputs taken p kind h o w g = cc
-  code_may (tree.Skip place rest) v s inputs taken p kind h o w g = cc
-  code_may (tree.Cond number yes_side no_side rest) v s inputs taken p kind h o w g = cc
+  pub code_may : (c : Code) (v : LeafValue) (levels : List Level) (s inputs : List ℤ) (taken : ℕ) (place : Place) (kind : Kind) → M.valid v → IsCodeOf v.variables c → M.holds v s
+      → step_of mode inputs c levels s taken ≡ Stopped place kind → may_at M mode kind c v ≡ true
+  code_may tree.Done v levels s inputs taken p kind h o w g = cc
+  code_may (tree.Assign place x e rest) v levels s inputs taken p kind h o w g = test_may e kind v s h o.1 w (value_stops place p kind (value_of e s mode) _ (λ n. moves _ p kind) g)
+  code_may (tree.Input place x rest) v levels s inputs taken p kind h o w g = absurd (input_moves place p kind (slice_get inputs taken) _ g)
+  code_may (tree.Assert place e rest) v levels s inputs taken p kind h o w g = assert_may place p e rest kind v levels s taken h o.0 w g
+  code_may (tree.If place e yes_side no_side rest) v levels s inputs taken p kind h o w g = test_may e kind v s h o.0 w (value_stops place p kind (value_of e s mode) _ (λ n. moves _ p kind) g)
+  code_may (tree.While place e step body rest) v levels s inputs taken p kind h o w g = test_may e kind v s h o.0 w (value_stops place p kind (value_of e s mode) _ (λ n. moves _ p kind) g)
+  code_may (tree.Do place body at e rest) v levels s inputs taken p kind h o w g = cc
+  code_may (tree.Leave place tree.Break rest) v levels s inputs taken p kind h o w g = cc
+  code_may (tree.Leave place tree.Continue rest) v levels s inputs taken p kind h o w g = cc
+  code_may (tree.Leave place (tree.Return e) rest) v levels s inputs taken p kind h o w g = test_may e kind v s h o.0 w (value_stops place p kind (value_of e s mode) _ (λ n. moves _ p kind) g)
+  code_may (tree.Block place body rest) v levels s inputs taken p kind h o w g = cc
+  code_may (tree.Skip place rest) v levels s inputs taken p kind h o w g = cc
+  code_may (tree.Cond number yes_side no_side rest) v levels s inputs taken p kind h o w g = cc

@@ -6,7 +6,7 @@ use Rattle.c_tree.specs.declared.tree.Mode.{Mode}
 use Rattle.c_tree.specs.declared.tree.Mode.TheVariants.{Stop}
 use Rattle.c_tree.specs.declared.tree.Op.{Op}
 use Rattle.c_tree.specs.declared.tree.Op.TheVariants.{Add, Sub, Mul, Div, Rem, And, Or}
-use Rattle.c_tree.specs.Tree.{Term, Number, Var, Neg, Not, Binary, Code, Assign, Assert, If, While}
+use Rattle.c_tree.specs.Tree.{Term, Number, Var, Neg, Not, Binary, Jump, Return, Code, Assign, Assert, If, While, Leave}
 use Rattle.c_tree.specs.Value.{least}
 use Rattle.leaf_domain.specs.declared.range.Range.{Range}
 use Rattle.leaf_domain.specs.Ranges.{is_empty_range}
@@ -61,10 +61,16 @@ is_of_value kind = true
 abbrev pub may_fail : LeafMeaning → Mode → Term → LeafValue → Bool
 may_fail M mode test v = unless_nothing v (not (is_nothing_of (assumed M mode test false v)))
 
+-- whether a jump may stop: the value of a `return`
+abbrev pub may_jump : LeafMeaning → Mode → Kind → Jump → LeafValue → Bool
+may_jump M mode kind (Return e) v = is_of_value kind && may_term M mode kind e v
+may_jump M mode kind jump v = false
+
 -- whether the first statement of a list may stop with the kind
 abbrev pub may_at : LeafMeaning → Mode → Kind → Code → LeafValue → Bool
 may_at M mode kind (Assign place x e rest) v = is_of_value kind && may_term M mode kind e v
 may_at M mode kind (Assert place e rest) v = if is_of_value kind then may_term M mode kind e v else may_fail M mode e v
 may_at M mode kind (If place e p q rest) v = is_of_value kind && may_term M mode kind e v
 may_at M mode kind (While place e step body rest) v = is_of_value kind && may_term M mode kind e v
+may_at M mode kind (Leave place jump rest) v = may_jump M mode kind jump v
 may_at M mode kind c v = false

@@ -256,6 +256,10 @@ assigned M mode x e v =
     if is_empty_range (range_of_term M mode e v) then nothing_of v.variables
     else form_set M x (form_where (fits_term M mode e v) (form_of_term e)) (operation_of_term M mode e v) (range_of_term M mode e v) v
 
+-- the leaf where an expression has a value
+abbrev pub valued : LeafMeaning → Mode → Term → LeafValue → LeafValue
+valued M mode e v = if is_empty_range (range_of_term M mode e v) then nothing_of v.variables else v
+
 -- the leaf after an input
 abbrev pub forgotten : LeafMeaning → ℕ → LeafValue → LeafValue
 forgotten M x v = M.set_range v x whole_int

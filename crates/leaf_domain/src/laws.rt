@@ -11,7 +11,7 @@ use crate::leaf::Leaf;
 /// expression is a form over its variables. The transfer functions answer leaves of the kind, and
 /// Nothing on Nothing. A range has each value of its expression; an assumed leaf keeps each store
 /// at which the expression is as wanted; the leaves after an assignment and after an input hold each
-/// store that these leave; a statement at which a store of the leaf stops may stop with that kind;
+/// store that these leave, and that where an expression has a value each store at which it has one; a statement at which a store of the leaf stops may stop with that kind;
 /// and an expression that fits, where overflows wrap, has the value that it has where they stop. At
 /// Nothing no statement may stop.
 pub fn transfer_is_sound<L: Leaf>()

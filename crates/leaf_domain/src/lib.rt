@@ -27,6 +27,6 @@ pub use linear_terms::Terms;
 pub use operation::Operation;
 pub use range::{Range, arithmetic, arithmetic_is_sound, fold_is_sound};
 pub use sides::Sides;
-pub use statements::may;
+pub use statements::{may, may_stop};
 pub use thresholds::{Multiple, Thresholds};
-pub use transfer::{assign, assume, fits, forget, range_of, raw_of, split};
+pub use transfer::{assign, assume, fits, forget, range_of, raw_of, split, valued};

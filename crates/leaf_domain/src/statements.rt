@@ -2,20 +2,20 @@
 #![tactic(auto)]
 
 ghost use Rattle.std.specs.Prelude.{◌≡◌, ◌&&◌, IfOk};
-ghost use Rattle.c_tree.specs.Fit.{IsTermOf, IsCodeOf};
+ghost use Rattle.c_tree.specs.Fit.{IsTermOf, IsJumpOf, IsCodeOf};
 ghost use Rattle.c_tree.specs.Tree.{Done};
-ghost use Rattle.c_tree.specs.View.{term, front};
-ghost use Rattle.leaf_domain.specs.Stops.{may_term, is_of_value, may_fail, may_at};
+ghost use Rattle.c_tree.specs.View.{term, jump_of, front};
+ghost use Rattle.leaf_domain.specs.Stops.{may_term, is_of_value, may_fail, may_jump, may_at};
 
 use crate::leaf::Leaf;
 use crate::stops::{has_kind, is_of_value};
 use crate::transfer::{split, survey};
-use c_tree::{Expr, Kind, Mode, Stmt};
+use c_tree::{Expr, Jump, Kind, Mode, Stmt};
 use fam_outer::NoMemory;
 use std::alloc::Global;
 
-/// Whether the value or the test of a statement may stop with the kind.
-fn may_stop<L: Leaf>(
+/// Whether the value or the test of a statement that is entered with the leaf may stop with the kind.
+pub fn may_stop<L: Leaf>(
     alloc: Global,
     leaf: &L,
     kind: Kind,
@@ -45,6 +45,23 @@ fn may_fail<L: Leaf>(alloc: Global, leaf: &L, test: &Expr, mode: Mode) -> Result
     Ok(!sides.when_false.is_nothing())
 }
 
+/// Whether a jump may stop with the kind: the value of a `return`.
+fn may_jump<L: Leaf>(
+    alloc: Global,
+    leaf: &L,
+    kind: Kind,
+    jump: &Jump,
+    mode: Mode,
+) -> Result<bool, NoMemory>
+    requires { IsJumpOf (L.value leaf.now).variables (jump_of jump.now) }
+    ensures { IfOk result (λ b. b ≡ may_jump L.meaning mode kind (jump_of jump.now) (L.value leaf.now)) }
+{
+    match jump {
+        Jump::Return(e) => may_stop(alloc, leaf, kind, e, mode),
+        Jump::Break | Jump::Continue => Ok(false),
+    }
+}
+
 /// Whether a statement that is entered with the leaf may stop with the kind. Of a statement with
 /// others in it this is asked of its own test alone.
 pub fn may<L: Leaf>(
@@ -68,6 +85,7 @@ pub fn may<L: Leaf>(
                 may_fail(alloc, leaf, test, mode)
             }
         }
+        Stmt::Leave { jump, .. } => may_jump(alloc, leaf, kind, jump, mode),
         _ => Ok(false),
     }
 }

@@ -249,6 +249,20 @@ pub fn assign<L: Leaf>(alloc: Global, leaf: &L, x: u32, e: &Expr, mode: Mode) ->
     set(alloc, leaf, x, &form, &operation, evaluation.range)
 }
 
+/// The leaf where an expression has a value: Nothing where it has none, else the leaf.
+pub fn valued<L: Leaf>(alloc: Global, leaf: &L, e: &Expr, mode: Mode) -> Result<L, NoMemory>
+    requires { IsTermOf (L.value leaf.now).variables (term e.now) }
+    ensures value { IfOk result (λ made. L.value made
+        ≡ transfer.valued L.meaning mode (term e.now) (L.value leaf.now)) }
+    ensures same { IfOk result (λ made. (L.value made).variables ≡ (L.value leaf.now).variables) }
+{
+    if range_of(alloc, leaf, e, mode)?.is_empty() {
+        L::nothing(alloc, leaf.variables())
+    } else {
+        leaf.copy(alloc)
+    }
+}
+
 /// The leaf after `x = input()`, which is any number of `int`.
 pub fn forget<L: Leaf>(alloc: Global, leaf: &L, x: u32) -> Result<L, NoMemory>
     requires { x < (L.value leaf.now).variables }

@@ -27,6 +27,8 @@ use Rattle.plain_analysis.specs.declared.options.Options.{Options}
 use Rattle.plain_analysis.specs.Places.{at_by, alarm_by}
 use Rattle.plain_analysis.specs.Promises.{RunsForeseen}
 use Rattle.plain_analysis.specs.Statements.{Heads, passed, final_heads}
+use Rattle.plain_analysis.specs.declared.ways.Ways as rust
+use Rattle.plain_analysis.specs.Ways.{enter, end_of}
 use Rattle.plain_analysis.proofs.Held.{analysis_foresees}
 use Rattle.tree_unify.specs.Formulas as formulas
 use Rattle.lifted_analysis.specs.declared.noted.Noted.{Noted}
@@ -41,7 +43,7 @@ use Rattle.lifted_analysis.specs.Promises.{truths_of, variant_at, begin_at, leaf
 use Rattle.lifted_analysis.specs.Start.{start_at}
 use Rattle.lifted_analysis.specs.declared.noted.TurnTree.{TurnTree}
 use Rattle.lifted_analysis.specs.Rules.{passed_with}
-use Rattle.lifted_analysis.specs.States.{truths_in, IsTest, HasRegionNumber}
+use Rattle.lifted_analysis.specs.States.{truths_in, ways_at, IsTest, HasRegionNumber}
 use Rattle.lifted_analysis.specs.Turns.{Turn, is_inductive}
 use Rattle.lifted_analysis.proofs.ConditionLemmas.{truths_same, tests_each, occurs_below}
 use Rattle.lifted_analysis.proofs.EntryLemmas.{three, reduced_push}
@@ -177,40 +179,40 @@ module _ {L : Type 0} (value : L → LeafValue) (family : FamilyContext) where
     start_count v = begin_count (leaf_of (plain family.plausible.now) v) (truths_in family.choices.now v)
 
     -- all that is found
-    pub noted_made : (K H : List Bool → Heads) (a b z : Noted L) (c : Code) (start tree : Plain L) → ((v : List Bool) → K v ≡ H v) → ((v : List Bool) → AreFit M family.options.now.mode (length p.names) (H v))
+    pub noted_made : (K H : List Bool → Heads) (a b z : Noted L) (c : Code) (w : rust.Ways (Tree L)) (tree : Plain L) → ((v : List Bool) → K v ≡ H v) → ((v : List Bool) → AreFit M family.options.now.mode (length p.names) (H v))
         → c ≡ p.body → a.places.items ≡ [] → a.alarms.items ≡ [] → a.turns.items ≡ []
-        → HasEntered value M family a b (entered_with value M family K c start)
-        → ((v : List Bool) → value (leaf_of start v) ≡ start_at M family p.start p.declared v)
-        → ((v : List Bool) → value (leaf_of tree v) ≡ passed_with M family K c v (value (leaf_of start v)))
+        → HasEntered value M family a b (entered_with value M family K c w)
+        → ((v : List Bool) → ways_at value w v ≡ enter (start_at M family p.start p.declared v))
+        → ((v : List Bool) → value (leaf_of tree v) ≡ end_of M (passed_with M family K c v (ways_at value w v)))
         → HasEnded value family p.end tree b z → HasNoted value M family p H z
-    noted_made K H a b z c start tree heads fit body none no_alarms no_turns entered started after ended =
+    noted_made K H a b z c w tree heads fit body none no_alarms no_turns entered started after ended =
         let mode = family.options.now.mode in
         let d : List Bool → LeafValue = λ v. start_at M family p.start p.declared v in
         let ts : List Bool → List Bool = λ v. truths_in family.choices.now v in
-        let is : (v : List Bool) → entered_with value M family K c start v ≡ visits_at M mode (ts v) (H v) p.body (d v) = λ v.
-        ap (λ G. visits_at M mode (ts v) G c (value (leaf_of start v))) (heads v)
-        ∙ (ap (λ x. visits_at M mode (ts v) (H v) x (value (leaf_of start v))) body ∙ ap (visits_at M mode (ts v) (H v) p.body) (started v)) in
+        let is : (v : List Bool) → entered_with value M family K c w v ≡ visits_at M mode (ts v) (H v) p.body (enter (d v)) = λ v.
+        ap (λ G. visits_at M mode (ts v) G c (ways_at value w v)) (heads v)
+        ∙ (ap (λ x. visits_at M mode (ts v) (H v) x (ways_at value w v)) body ∙ ap (visits_at M mode (ts v) (H v) p.body) (started v)) in
         record {
           leaves = λ v.
-              let last : value (leaf_of tree v) ≡ passed M mode (H v) (projected (ts v) p.body) (d v) =
-              after v ∙ (ap (λ G. passed M mode G (projected (ts v) c) (value (leaf_of start v))) (heads v)
-              ∙ (ap (λ x. passed M mode (H v) (projected (ts v) x) (value (leaf_of start v))) body ∙ ap (passed M mode (H v) (projected (ts v) p.body)) (started v)))
+              let last : value (leaf_of tree v) ≡ end_of M (passed M mode (H v) (projected (ts v) p.body) (enter (d v))) =
+              after v ∙ (ap (λ G. end_of M (passed M mode G (projected (ts v) c) (ways_at value w v))) (heads v)
+              ∙ (ap (λ x. end_of M (passed M mode (H v) (projected (ts v) x) (ways_at value w v))) body ∙ ap (λ u. end_of M (passed M mode (H v) (projected (ts v) p.body) u)) (started v)))
               in
               ended.leaves v
-              ∙ (ap (λ l. l ++ (p.end, value (leaf_of tree v)) ∷ []) (entered.leaves v ∙ ap (λ l. map (leaf_there value v) l ++ leaves_in (entered_with value M family K c start v)) none)
+              ∙ (ap (λ l. l ++ (p.end, value (leaf_of tree v)) ∷ []) (entered.leaves v ∙ ap (λ l. map (leaf_there value v) l ++ leaves_in (entered_with value M family K c w v)) none)
               ∙ (ap (λ l. leaves_in l ++ (p.end, value (leaf_of tree v)) ∷ []) (is v)
-              ∙ (ap (λ (x : LeafValue). leaves_in (visits_at M mode (ts v) (H v) p.body (d v)) ++ (p.end, x) ∷ []) last
+              ∙ (ap (λ (x : LeafValue). leaves_in (visits_at M mode (ts v) (H v) p.body (enter (d v))) ++ (p.end, x) ∷ []) last
               ∙ leaves_are M laws mode A N p program (ts v) (d v) (start_valid v) (start_count v) (H v) (fit v))));
           stops = λ v.
               let end : List ((Place × Kind) × Bool) = ((p.end, Overflow), false) ∷ (((p.end, ZeroDivisor), false) ∷ (((p.end, Assertion), false) ∷ [])) in
               ended.stops v
-              ∙ (ap (λ l. l ++ end) (entered.stops v ∙ ap (λ l. map (stop_there v) l ++ stops_in M mode (entered_with value M family K c start v)) no_alarms)
+              ∙ (ap (λ l. l ++ end) (entered.stops v ∙ ap (λ l. map (stop_there v) l ++ stops_in M mode (entered_with value M family K c w v)) no_alarms)
               ∙ (ap (λ l. stops_in M mode l ++ end) (is v)
               ∙ stops_are M laws mode A N p program (ts v) (d v) (start_valid v) (start_count v) (H v) (fit v)));
           turns = λ v.
               let said : Turn → Place × Bool = λ t. (t.place, is_inductive M t) in
-              let there : map (turn_there value v) z.turns.items ≡ turns_in (visits_at M mode (ts v) (H v) p.body (d v)) =
-              ap (map (turn_there value v)) ended.turns ∙ (entered.turns v ∙ (ap (λ l. map (turn_there value v) l ++ turns_in (entered_with value M family K c start v)) no_turns ∙ ap turns_in (is v)))
+              let there : map (turn_there value v) z.turns.items ≡ turns_in (visits_at M mode (ts v) (H v) p.body (enter (d v))) =
+              ap (map (turn_there value v)) ended.turns ∙ (entered.turns v ∙ (ap (λ l. map (turn_there value v) l ++ turns_in (entered_with value M family K c w v)) no_turns ∙ ap turns_in (is v)))
               in
               twice (turn_there value v) said z.turns.items ∙ (ap (map said) there
               ∙ loops_are M laws mode A N p program (ts v) (d v) (start_valid v) (start_count v) (H v) (fit v));

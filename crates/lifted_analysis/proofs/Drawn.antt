@@ -4,25 +4,27 @@ use Rattle.std.specs.Prelude.{slice_index_or, IsTrue}
 use Rattle.fam_outer.specs.declared.faults.Place.{Place}
 use Rattle.c_tree.specs.declared.tree.Kind.{Kind}
 use Rattle.c_tree.specs.declared.tree.Mode.{Mode}
-use Rattle.c_tree.specs.Tree.{Term, Code, followed, Done, Assign, Input, Assert, If, While, Block, Skip, Cond}
+use Rattle.c_tree.specs.Tree.{Term, Code, followed, Done, Assign, Input, Assert, If, While, Do, Leave, Block, Skip, Cond}
 use Rattle.c_tree.specs.Project.{projected}
 use Rattle.c_tree.specs.Fit.{IsCodeOf}
 use Rattle.fam_outer.specs.Places.{is_before}
 use Rattle.c_tree.specs.Whole.{IsBeforeAll, IsRising}
-use Rattle.leaf_domain.specs.Leaves.{LeafValue, LeafMeaning, LeafLaws, IsLeafLike, nothing_of}
+use Rattle.leaf_domain.specs.Leaves.{LeafValue, LeafMeaning, LeafLaws, nothing_of}
 use Rattle.leaf_domain.specs.Soundness.{TransferAnswers}
 use Rattle.leaf_domain.specs.Transfer.{assumed, assigned, forgotten}
 use Rattle.leaf_domain.specs.Stops.{may_at}
-use Rattle.leaf_domain.proofs.Answered.{answers_then}
 use Rattle.plain_analysis.specs.Places.{is_same_place, entry_in}
-use Rattle.plain_analysis.specs.Statements.{Heads, Entry, passed, lap, head_by, entries_by}
-use Rattle.plain_analysis.proofs.JoinLemmas.{join_answer}
+use Rattle.plain_analysis.specs.Statements.{Heads, Entry, LoopParts, TestFirst, TestLast, passed, chosen, through_body, lap, head_by, behind_by, entries_by}
+use Rattle.plain_analysis.specs.Ways.{Ways, onto, enter, leave_by, going_on}
+use Rattle.plain_analysis.proofs.Listed.{entries-followed}
+use Rattle.plain_analysis.proofs.Kept.{AreLeaves, enter_leaves, leave_kept}
 use Rattle.plain_analysis.proofs.Located.{same_place_self}
-use Rattle.lifted_analysis.specs.Entries.{Visit, visits_at, turn_of, turns_in}
+use Rattle.lifted_analysis.specs.Entries.{Visit, loop_visit, body_at, first_group, visits_at, turn_of, turns_in}
 use Rattle.lifted_analysis.specs.Rules.{no_heads, heads_where}
-use Rattle.lifted_analysis.specs.Steps.{kept_by}
+use Rattle.lifted_analysis.specs.Steps.{kept_by, parts_at}
 use Rattle.lifted_analysis.specs.Turns.{Turn, turns_by, is_inductive, inductive_in}
-use Rattle.lifted_analysis.proofs.PassedLemmas.{AreFit, suits, within_count, passed_keeps, passed_nothing, assigned_nothing, forgotten_nothing, assumed_nothing}
+use Rattle.lifted_analysis.proofs.IdleLemmas.{none_idle, assigned_nothing, forgotten_nothing, assumed_nothing, left_nothing, through_idle, lap_idle, behind_idle, passed_idle, parts_idle}
+use Rattle.lifted_analysis.proofs.PassedLemmas.{AreFit, KeepsIn, assign_leaves, input_leaves, test_leaves, within_leaves, onward_leaf, head_leaf, behind_leaves, passed_leaves, sides_leaves}
 
 before_other : (a b : Place) → IsTrue (is_before a b) → is_same_place a b ≡ false
 before_other a b h = grind arith
@@ -37,7 +39,9 @@ IsCodeOf-parts count (Assign place y e rest) b h = let r = IsCodeOf-parts count 
 IsCodeOf-parts count (Input place y rest) b h = let r = IsCodeOf-parts count rest b h.1 in ((h.0, r.0), r.1)
 IsCodeOf-parts count (Assert place e rest) b h = let r = IsCodeOf-parts count rest b h.1 in ((h.0, r.0), r.1)
 IsCodeOf-parts count (If place e p q rest) b h = let r = IsCodeOf-parts count rest b h.3 in ((h.0, h.1, h.2, r.0), r.1)
-IsCodeOf-parts count (While place e step body rest) b h = let r = IsCodeOf-parts count rest b h.3 in ((h.0, h.1, h.2, r.0), r.1)
+IsCodeOf-parts count (While place e step body rest) b h = let r = IsCodeOf-parts count rest b h.3 in ((h.0, h.1, h.2, r.0, h.4), r.1)
+IsCodeOf-parts count (Do place body at e rest) b h = let r = IsCodeOf-parts count rest b h.2 in ((h.0, h.1, r.0), r.1)
+IsCodeOf-parts count (Leave place jump rest) b h = let r = IsCodeOf-parts count rest b h.1 in ((h.0, r.0), r.1)
 IsCodeOf-parts count (Block place body rest) b h = let r = IsCodeOf-parts count rest b h.1 in ((h.0, r.0), r.1)
 IsCodeOf-parts count (Skip place rest) b h = IsCodeOf-parts count rest b h
 IsCodeOf-parts count (Cond number p q rest) b h = let r = IsCodeOf-parts count rest b h.2 in ((h.0, h.1, r.0), r.1)
@@ -57,40 +61,29 @@ list_more : {X : Type 0} (xs zs us ws : List X) → us ≡ zs ++ ws → xs ++ us
 list_more xs zs us ws h = ap (λ l. xs ++ l) h ∙ sym (append_assoc xs zs ws)
 
 module _ (M : LeafMeaning) (mode : Mode) (H : Heads) where
-  entries_by-followed : (a b : Code) (v : LeafValue) → entries_by M mode H (followed a b) v ≡ entries_by M mode H a v ++ entries_by M mode H b (passed M mode H a v)
-  entries_by-followed Done b v = refl
-  entries_by-followed (Assign place x e rest) b v = ap (λ l. record { place = place; statement = Assign place x e Done; leaf = v } ∷ l) (entries_by-followed rest b (assigned M mode x e v))
-  entries_by-followed (Input place x rest) b v = ap (λ l. record { place = place; statement = Input place x Done; leaf = v } ∷ l) (entries_by-followed rest b (forgotten M x v))
-  entries_by-followed (Assert place e rest) b v = ap (λ l. record { place = place; statement = Assert place e Done; leaf = v } ∷ l) (entries_by-followed rest b (assumed M mode e true v))
-  entries_by-followed (If place e p q rest) b v =
-      ap (λ l. record { place = place; statement = If place e p q Done; leaf = v } ∷ l)
-      (sides_more (entries_by M mode H p (assumed M mode e true v)) (entries_by M mode H q (assumed M mode e false v)) _ _ _
-      (entries_by-followed rest b (M.join (passed M mode H p (assumed M mode e true v)) (passed M mode H q (assumed M mode e false v)))))
-  entries_by-followed (While place e step body rest) b v =
-      let x = head_by M mode H place e step body v in
-      ap (λ l. record { place = place; statement = While place e step body Done; leaf = x } ∷ l)
-      (sides_more (entries_by M mode H step (passed M mode H body (assumed M mode e true x))) (entries_by M mode H body (assumed M mode e true x)) _ _ _
-      (entries_by-followed rest b (assumed M mode e false x)))
-  entries_by-followed (Block place body rest) b v = two_more (entries_by M mode H body v) _ _ _ _ (entries_by-followed rest b (passed M mode H body v))
-  entries_by-followed (Skip place rest) b v = ap (λ l. record { place = place; statement = Skip place Done; leaf = v } ∷ l) (entries_by-followed rest b v)
-  entries_by-followed (Cond number p q rest) b v = entries_by-followed rest b v
-
-  turns_by-followed : (a b : Code) (v : LeafValue) → turns_by M mode H (followed a b) v ≡ turns_by M mode H a v ++ turns_by M mode H b (passed M mode H a v)
-  turns_by-followed Done b v = refl
-  turns_by-followed (Assign place x e rest) b v = turns_by-followed rest b (assigned M mode x e v)
-  turns_by-followed (Input place x rest) b v = turns_by-followed rest b (forgotten M x v)
-  turns_by-followed (Assert place e rest) b v = turns_by-followed rest b (assumed M mode e true v)
-  turns_by-followed (If place e p q rest) b v =
-      sides_more (turns_by M mode H p (assumed M mode e true v)) (turns_by M mode H q (assumed M mode e false v)) _ _ _
-      (turns_by-followed rest b (M.join (passed M mode H p (assumed M mode e true v)) (passed M mode H q (assumed M mode e false v))))
-  turns_by-followed (While place e step body rest) b v =
-      let x = head_by M mode H place e step body v in
-      ap (λ l. record { place = place; entered = v; head = x; again = lap M mode H step body (assumed M mode e true x) } ∷ l)
-      (sides_more (turns_by M mode H step (passed M mode H body (assumed M mode e true x))) (turns_by M mode H body (assumed M mode e true x)) _ _ _
-      (turns_by-followed rest b (assumed M mode e false x)))
-  turns_by-followed (Block place body rest) b v = list_more (turns_by M mode H body v) _ _ _ (turns_by-followed rest b (passed M mode H body v))
-  turns_by-followed (Skip place rest) b v = turns_by-followed rest b v
-  turns_by-followed (Cond number p q rest) b v = turns_by-followed rest b v
+  turns_by-followed : (a b : Code) (w : Ways) → turns_by M mode H (followed a b) w ≡ turns_by M mode H a w ++ turns_by M mode H b (passed M mode H a w)
+  turns_by-followed Done b w = refl
+  turns_by-followed (Assign place x e rest) b w = turns_by-followed rest b (onto w (assigned M mode x e w.behind))
+  turns_by-followed (Input place x rest) b w = turns_by-followed rest b (onto w (forgotten M x w.behind))
+  turns_by-followed (Assert place e rest) b w = turns_by-followed rest b (onto w (assumed M mode e true w.behind))
+  turns_by-followed (If place e p q rest) b w =
+      let u = onto w (assumed M mode e true w.behind) in
+      sides_more (turns_by M mode H p u) (turns_by M mode H q (onto (passed M mode H p u) (assumed M mode e false w.behind))) _ _ _
+      (turns_by-followed rest b (chosen M mode H e p q w))
+  turns_by-followed (While place e step body rest) b w =
+      let l = TestFirst e step body in
+      let x = head_by M mode H place l w.behind in
+      ap (λ ts. record { place = place; entered = w.behind; head = x; again = lap M mode H l x } ∷ ts)
+      (sides_more (turns_by M mode H step (enter (going_on M (through_body M mode H l x)))) (turns_by M mode H body (enter (assumed M mode e true x))) _ _ _
+      (turns_by-followed rest b (behind_by M mode H l w x)))
+  turns_by-followed (Do place body at e rest) b w =
+      let l = TestLast body at e in
+      let x = head_by M mode H place l w.behind in
+      two_more (turns_by M mode H body (enter x)) _ _ _ (record { place = place; entered = w.behind; head = x; again = lap M mode H l x }) (turns_by-followed rest b (behind_by M mode H l w x))
+  turns_by-followed (Leave place jump rest) b w = turns_by-followed rest b (leave_by M mode jump w)
+  turns_by-followed (Block place body rest) b w = list_more (turns_by M mode H body w) _ _ _ (turns_by-followed rest b (passed M mode H body w))
+  turns_by-followed (Skip place rest) b w = turns_by-followed rest b w
+  turns_by-followed (Cond number p q rest) b w = turns_by-followed rest b w
 
 -- what is said of each statement, and of the entry at each place
 abbrev pub from : {Y : Type 0} → (Visit → List Y) → List Visit → List Y
@@ -160,131 +153,167 @@ module _ (M : LeafMeaning) (mode : Mode) (n : ℕ) where
   kept_nothing false b = either b
 
   module _ (laws : LeafLaws M) (A : TransferAnswers M mode) (few : n ≤ 48) (ts : List Bool) where
-    at_nothing : (c : Code) (x : LeafValue) → x ≡ nothing_of n → AllLost (visits_at M mode ts no_heads c (nothing_of n)) → AllLost (visits_at M mode ts no_heads c x)
-    at_nothing c x e h = subst (λ y. AllLost (visits_at M mode ts no_heads c y)) (sym e) h
+    at_nothing : (c : Code) (u w : Ways) → u ≡ onto w (nothing_of n) → AllLost (visits_at M mode ts no_heads c (onto w (nothing_of n))) → AllLost (visits_at M mode ts no_heads c u)
+    at_nothing c u w e h = subst (λ y. AllLost (visits_at M mode ts no_heads c y)) (sym e) h
 
-    side_nothing : (c : Code) (a w b : Bool) → AllLost (visits_at M mode ts no_heads c (nothing_of n)) → AllLost (visits_at M mode ts (heads_where a no_heads) c (kept_by w b (nothing_of n)))
-    side_nothing c true w b h = at_nothing c _ (kept_nothing w b) h
-    side_nothing c false w b h = at_nothing c _ (kept_nothing w b) h
+    side_nothing : (c : Code) (a w b : Bool) (u : Ways) → AllLost (visits_at M mode ts no_heads c (onto u (nothing_of n))) → AllLost (visits_at M mode ts (heads_where a no_heads) c (onto u (kept_by w b (nothing_of n))))
+    side_nothing c true w b u h = at_nothing c _ u (ap (onto u) (kept_nothing w b)) h
+    side_nothing c false w b u h = at_nothing c _ u (ap (onto u) (kept_nothing w b)) h
 
-    off : (c : Code) → passed M mode no_heads c (nothing_of n) ≡ nothing_of n
-    off c = passed_nothing M laws mode A n few c
+    off : (c : Code) (w : Ways) → passed M mode no_heads c (onto w (nothing_of n)) ≡ onto w (nothing_of n)
+    off c w = passed_idle M laws mode A n few no_heads (none_idle n) c w
 
     not_so : (e : Term) (want : Bool) → assumed M mode e want (nothing_of n) ≡ nothing_of n
     not_so e want = assumed_nothing M laws mode A n few e want
 
+    nowhere : (l : LoopParts) → through_body M mode no_heads l (nothing_of n) ≡ enter (nothing_of n)
+    nowhere l = through_idle M laws mode A n few no_heads (none_idle n) l (parts_idle M laws mode A n few no_heads (none_idle n) l)
+
+    lost_loop : (place : Place) (s : Code) (l : LoopParts) → IsLost (loop_visit M mode ts no_heads place s l (nothing_of n))
+    lost_loop place s l = record {
+      leaf = refl;
+      turn = (refl, lap_idle M laws mode A n few no_heads (none_idle n) (parts_at ts l) (parts_idle M laws mode A n few no_heads (none_idle n) (parts_at ts l)));
+    }
+
+    behind_lost : (l : LoopParts) (w : Ways) → behind_by M mode no_heads l (onto w (nothing_of n)) (nothing_of n) ≡ onto w (nothing_of n)
+    behind_lost l w = behind_idle M laws mode A n few no_heads (none_idle n) l (parts_idle M laws mode A n few no_heads (none_idle n) l) (onto w (nothing_of n))
+
+    abbrev O : Ways
+    O = enter (nothing_of n)
+
     -- statements that are not kept are all Nothing
-    nothing_visits : (c : Code) → AllLost (visits_at M mode ts no_heads c (nothing_of n))
+    nothing_visits : (c : Code) (w : Ways) → AllLost (visits_at M mode ts no_heads c (onto w (nothing_of n)))
     unfolding AllLost
-    nothing_visits Done = tt
-    nothing_visits (Assign place y e rest) = (lost place (Assign place y e Done), at_nothing rest _ (assigned_nothing M laws mode A n few place y e) (nothing_visits rest))
-    nothing_visits (Input place y rest) = (lost place (Input place y Done), at_nothing rest _ (forgotten_nothing M laws mode A n few place y) (nothing_visits rest))
-    nothing_visits (Assert place e rest) = (lost place (Assert place e Done), at_nothing rest _ (not_so e true) (nothing_visits rest))
-    nothing_visits (If place e p q rest) = (
-      lost place (If place e p q Done),
-      lost-append (visits_at M mode ts no_heads p (assumed M mode e true (nothing_of n))) _ (at_nothing p _ (not_so e true) (nothing_visits p))
-          (lost-append (visits_at M mode ts no_heads q (assumed M mode e false (nothing_of n))) _ (at_nothing q _ (not_so e false) (nothing_visits q))
-          (at_nothing rest _ (off (If place e (projected ts p) (projected ts q) Done)) (nothing_visits rest))),
-    )
-    nothing_visits (While place e step body rest) =
-        let inside = assumed M mode e true (nothing_of n) in
-        let behind : passed M mode no_heads (projected ts body) inside ≡ nothing_of n = ap (passed M mode no_heads (projected ts body)) (not_so e true) ∙ off (projected ts body) in (
-          record { leaf = refl; turn = (refl, ap (passed M mode no_heads (projected ts step)) behind ∙ off (projected ts step)) },
-          lost-append (visits_at M mode ts no_heads step (passed M mode no_heads (projected ts body) inside)) _ (at_nothing step _ behind (nothing_visits step))
-              (lost-append (visits_at M mode ts no_heads body inside) _ (at_nothing body _ (not_so e true) (nothing_visits body))
-              (at_nothing rest _ (not_so e false) (nothing_visits rest))),
+    nothing_visits Done w = tt
+    nothing_visits (Assign place y e rest) w = (lost place (Assign place y e Done), at_nothing rest _ w (ap (onto w) (assigned_nothing M laws mode A n few y e)) (nothing_visits rest w))
+    nothing_visits (Input place y rest) w = (lost place (Input place y Done), at_nothing rest _ w (ap (onto w) (forgotten_nothing M laws mode A n few y)) (nothing_visits rest w))
+    nothing_visits (Assert place e rest) w = (lost place (Assert place e Done), at_nothing rest _ w (ap (onto w) (not_so e true)) (nothing_visits rest w))
+    nothing_visits (If place e p q rest) w =
+        let u = onto w (assumed M mode e true (nothing_of n)) in
+        let a = passed M mode no_heads (projected ts p) u in (
+          lost place (If place e p q Done),
+          lost-append (visits_at M mode ts no_heads p u) _ (at_nothing p u w (ap (onto w) (not_so e true)) (nothing_visits p w))
+              (lost-append (visits_at M mode ts no_heads q (onto a (assumed M mode e false (nothing_of n)))) _ (at_nothing q _ a (ap (onto a) (not_so e false)) (nothing_visits q a))
+              (at_nothing rest _ w (off (If place e (projected ts p) (projected ts q) Done) w) (nothing_visits rest w))),
         )
-    nothing_visits (Block place body rest) = (
+    nothing_visits (While place e step body rest) w =
+        let l = TestFirst e step body in
+        let t = enter (going_on M (body_at M mode ts no_heads l (nothing_of n))) in
+        let u = enter (assumed M mode e true (nothing_of n)) in (
+          lost_loop place (While place e step body Done) l,
+          lost-append (visits_at M mode ts no_heads step t) _ (at_nothing step t O (ap (λ b. enter (going_on M b)) (nowhere (parts_at ts l))) (nothing_visits step O))
+              (lost-append (visits_at M mode ts no_heads body u) _ (at_nothing body u O (ap enter (not_so e true)) (nothing_visits body O))
+              (at_nothing rest _ w (behind_lost (parts_at ts l) w) (nothing_visits rest w))),
+        )
+    nothing_visits (Do place body at e rest) w =
+        let l = TestLast body at e in (
+          lost_loop place (Do place body at e Done) l,
+          lost-append (visits_at M mode ts no_heads body O) _ (nothing_visits body O)
+              (record { leaf = ap (going_on M) (nowhere (parts_at ts l)); turn = tt }, at_nothing rest _ w (behind_lost (parts_at ts l) w) (nothing_visits rest w)),
+        )
+    nothing_visits (Leave place jump rest) w = (lost place (Leave place jump Done), at_nothing rest _ w (left_nothing M laws mode A n few jump w) (nothing_visits rest w))
+    nothing_visits (Block place body rest) w = (
       lost place (Block place body Done),
-      lost-append (visits_at M mode ts no_heads body (nothing_of n)) _ (nothing_visits body) (at_nothing rest _ (off (projected ts body)) (nothing_visits rest)),
+      lost-append (visits_at M mode ts no_heads body (onto w (nothing_of n))) _ (nothing_visits body w) (at_nothing rest _ w (off (projected ts body) w) (nothing_visits rest w)),
     )
-    nothing_visits (Skip place rest) = (lost place (Skip place Done), nothing_visits rest)
-    nothing_visits (Cond number p q rest) =
+    nothing_visits (Skip place rest) w = (lost place (Skip place Done), nothing_visits rest w)
+    nothing_visits (Cond number p q rest) w =
         let b = slice_index_or ts number false in
-        lost-append (visits_at M mode ts (heads_where b no_heads) p (kept_by true b (nothing_of n))) _ (side_nothing p b true b (nothing_visits p))
-        (lost-append (visits_at M mode ts (heads_where (not b) no_heads) q (kept_by false b (nothing_of n))) _ (side_nothing q (not b) false b (nothing_visits q))
-        (at_nothing rest _ (off (if b then projected ts p else projected ts q)) (nothing_visits rest)))
+        let u = first_group M mode ts no_heads b p (onto w (nothing_of n)) in
+        lost-append (visits_at M mode ts (heads_where b no_heads) p (onto w (kept_by true b (nothing_of n)))) _ (side_nothing p b true b w (nothing_visits p w))
+        (lost-append (visits_at M mode ts (heads_where (not b) no_heads) q (onto u (kept_by false b (nothing_of n)))) _ (side_nothing q (not b) false b u (nothing_visits q u))
+        (at_nothing rest _ w (off (if b then projected ts p else projected ts q) w) (nothing_visits rest w)))
 
     module _ (H : Heads) (fit : AreFit M mode n H) where
-      keeps_on : (c : Code) (x : LeafValue) → M.valid x → x.variables ≡ n → IsCodeOf n c → IsLeafLike M x (passed M mode H c x)
-      keeps_on c x h k f = passed_keeps M laws mode A n H fit c f x h k
+      abbrev keeps : (c : Code) → IsCodeOf n c → (w : Ways) → AreLeaves M n w → AreLeaves M n (passed M mode H c w)
+      keeps = passed_leaves M laws mode A n H fit
 
       -- the entries and loops of a projected list are among the statements of the list
       IsDrawnAt : Code → Code → Type 0
-      IsDrawnAt c d = (x : LeafValue) → M.valid x → x.variables ≡ n → IsCodeOf n d → IsDrawn (entries_by M mode H d x) (turns_by M mode H d x) (visits_at M mode ts H c x)
+      IsDrawnAt c d = (w : Ways) → AreLeaves M n w → IsCodeOf n d → IsDrawn (entries_by M mode H d w) (turns_by M mode H d w) (visits_at M mode ts H c w)
 
-      group : (b : Bool) (p q rest : Code) (x : LeafValue) → IsDrawnAt p (projected ts p) → IsDrawnAt q (projected ts q) → IsDrawnAt rest (projected ts rest)
-          → M.valid x → x.variables ≡ n → IsCodeOf n (followed (if b then projected ts p else projected ts q) (projected ts rest))
-          → IsDrawn (entries_by M mode H (followed (if b then projected ts p else projected ts q) (projected ts rest)) x) (turns_by M mode H (followed (if b then projected ts p else projected ts q) (projected ts rest)) x)
-          (visits_at M mode ts (heads_where b H) p (kept_by true b x) ++ (visits_at M mode ts (heads_where (not b) H) q (kept_by false b x) ++ visits_at M mode ts H rest (passed M mode H (if b then projected ts p else projected ts q) x)))
+      group : (b : Bool) (p q rest : Code) (w : Ways) → IsDrawnAt p (projected ts p) → IsDrawnAt q (projected ts q) → IsDrawnAt rest (projected ts rest)
+          → AreLeaves M n w → IsCodeOf n (followed (if b then projected ts p else projected ts q) (projected ts rest))
+          → IsDrawn (entries_by M mode H (followed (if b then projected ts p else projected ts q) (projected ts rest)) w) (turns_by M mode H (followed (if b then projected ts p else projected ts q) (projected ts rest)) w)
+          (visits_at M mode ts (heads_where b H) p (onto w (kept_by true b w.behind))
+          ++ (visits_at M mode ts (heads_where (not b) H) q (onto (first_group M mode ts H b p w) (kept_by false b w.behind)) ++ visits_at M mode ts H rest (passed M mode H (if b then projected ts p else projected ts q) w)))
       unfolding IsDrawnAt
-      group true p q rest x dp dq dr h k f =
+      group true p q rest w dp dq dr h f =
           let s = IsCodeOf-parts n (projected ts p) (projected ts rest) f in
-          let a = keeps_on (projected ts p) x h k s.0 in
-          rw (entries_by-followed M mode H (projected ts p) (projected ts rest) x, turns_by-followed M mode H (projected ts p) (projected ts rest) x)
-          (drawn-append (entries_by M mode H (projected ts rest) (passed M mode H (projected ts p) x)) (turns_by M mode H (projected ts rest) (passed M mode H (projected ts p) x)) _ (dp x h k s.0)
-          (left_behind (visits_at M mode ts no_heads q (nothing_of x.variables)) (subst (λ m. AllLost (visits_at M mode ts no_heads q (nothing_of m))) (sym k) (nothing_visits q))
-          (dr (passed M mode H (projected ts p) x) a.valid (a.same ∙ k) s.1)))
-      group false p q rest x dp dq dr h k f =
+          let a = passed M mode H (projected ts p) w in
+          rw (entries-followed M mode H (projected ts p) (projected ts rest) w, turns_by-followed M mode H (projected ts p) (projected ts rest) w)
+          (drawn-append (entries_by M mode H (projected ts rest) a) (turns_by M mode H (projected ts rest) a) _ (dp w h s.0)
+          (left_behind (visits_at M mode ts no_heads q (onto a (nothing_of w.behind.variables))) (subst (λ m. AllLost (visits_at M mode ts no_heads q (onto a (nothing_of m)))) (sym h.behind.count) (nothing_visits q a))
+          (dr a (keeps (projected ts p) s.0 w h) s.1)))
+      group false p q rest w dp dq dr h f =
           let s = IsCodeOf-parts n (projected ts q) (projected ts rest) f in
-          let a = keeps_on (projected ts q) x h k s.0 in
-          rw (entries_by-followed M mode H (projected ts q) (projected ts rest) x, turns_by-followed M mode H (projected ts q) (projected ts rest) x)
-          (left_behind (visits_at M mode ts no_heads p (nothing_of x.variables)) (subst (λ m. AllLost (visits_at M mode ts no_heads p (nothing_of m))) (sym k) (nothing_visits p))
-          (drawn-append (entries_by M mode H (projected ts rest) (passed M mode H (projected ts q) x)) (turns_by M mode H (projected ts rest) (passed M mode H (projected ts q) x)) _ (dq x h k s.0)
-          (dr (passed M mode H (projected ts q) x) a.valid (a.same ∙ k) s.1)))
+          let a = passed M mode H (projected ts q) w in
+          let u = onto w (nothing_of w.behind.variables) in
+          let none : u ≡ onto w (nothing_of n) = ap (λ m. onto w (nothing_of m)) h.behind.count in
+          let same : w ≡ onto (passed M mode no_heads (projected ts p) u) w.behind = sym (ap (λ y. onto (passed M mode no_heads (projected ts p) y) w.behind) none ∙ ap (λ y. onto y w.behind) (off (projected ts p) w)) in
+          rw (entries-followed M mode H (projected ts q) (projected ts rest) w, turns_by-followed M mode H (projected ts q) (projected ts rest) w)
+          (left_behind (visits_at M mode ts no_heads p u) (at_nothing p u w none (nothing_visits p w))
+          (drawn-append (entries_by M mode H (projected ts rest) a) (turns_by M mode H (projected ts rest) a) _
+          (subst (λ y. IsDrawn (entries_by M mode H (projected ts q) w) (turns_by M mode H (projected ts q) w) (visits_at M mode ts H q y)) same (dq w h s.0))
+          (dr a (keeps (projected ts q) s.0 w h) s.1)))
 
       drawn : (c : Code) → IsDrawnAt c (projected ts c)
       unfolding IsDrawnAt
-      drawn Done x h k f = none
-      drawn (Assign place y e rest) x h k f =
-          let a = A.assigned_answers y e x (within_count M laws mode A n H fit y x k f.0) (suits M laws mode A n H fit e x h k f.1) in
-          kept (same place (Assign place y e Done) (Assign place y e Done) x None (λ kind. refl)) (drawn rest (assigned M mode y e x) a.valid (a.same ∙ k) f.2)
-      drawn (Input place y rest) x h k f =
-          let a = A.forgotten_answers y x (within_count M laws mode A n H fit y x k f.0) h in
-          kept (same place (Input place y Done) (Input place y Done) x None (λ kind. refl)) (drawn rest (forgotten M y x) a.valid (a.same ∙ k) f.1)
-      drawn (Assert place e rest) x h k f =
-          let a = A.assumed_answers e true x (suits M laws mode A n H fit e x h k f.0) in
-          kept (same place (Assert place e Done) (Assert place e Done) x None (λ kind. refl)) (drawn rest (assumed M mode e true x) a.valid (a.same ∙ k) f.1)
-      drawn (If place e p q rest) x h k f =
-          let t = A.assumed_answers e true x (suits M laws mode A n H fit e x h k f.0) in
-          let u = A.assumed_answers e false x (suits M laws mode A n H fit e x h k f.0) in
-          let y = passed M mode H (projected ts p) (assumed M mode e true x) in
-          let z = passed M mode H (projected ts q) (assumed M mode e false x) in
-          let a = answers_then x _ _ t (keeps_on (projected ts p) (assumed M mode e true x) t.valid (t.same ∙ k) f.1) in
-          let b = answers_then x _ _ u (keeps_on (projected ts q) (assumed M mode e false x) u.valid (u.same ∙ k) f.2) in
-          let j = join_answer M laws x y z a b in
-          kept (same place (If place e (projected ts p) (projected ts q) Done) (If place e p q Done) x None (λ kind. refl))
-          (drawn-append (entries_by M mode H (projected ts q) (assumed M mode e false x) ++ entries_by M mode H (projected ts rest) (M.join y z)) (turns_by M mode H (projected ts q) (assumed M mode e false x) ++ turns_by M mode H (projected ts rest) (M.join y z)) _
-          (drawn p (assumed M mode e true x) t.valid (t.same ∙ k) f.1)
-          (drawn-append (entries_by M mode H (projected ts rest) (M.join y z)) (turns_by M mode H (projected ts rest) (M.join y z)) _
-          (drawn q (assumed M mode e false x) u.valid (u.same ∙ k) f.2)
-          (drawn rest (M.join y z) j.valid (j.same ∙ k) f.3)))
-      drawn (While place e step body rest) x h k f =
+      drawn Done w h f = none
+      drawn (Assign place y e rest) w h f =
+          kept (same place (Assign place y e Done) (Assign place y e Done) w.behind None (λ kind. refl)) (drawn rest (onto w (assigned M mode y e w.behind)) (assign_leaves M laws mode A n H fit y e w h f.0 f.1) f.2)
+      drawn (Input place y rest) w h f =
+          kept (same place (Input place y Done) (Input place y Done) w.behind None (λ kind. refl)) (drawn rest (onto w (forgotten M y w.behind)) (input_leaves M laws mode A n H fit y w h f.0) f.1)
+      drawn (Assert place e rest) w h f =
+          kept (same place (Assert place e Done) (Assert place e Done) w.behind None (λ kind. refl)) (drawn rest (onto w (assumed M mode e true w.behind)) (test_leaves M laws mode A n H fit e true w w.behind h h.behind f.0) f.1)
+      drawn (If place e p q rest) w h f =
+          let u = onto w (assumed M mode e true w.behind) in
+          let i = test_leaves M laws mode A n H fit e true w w.behind h h.behind f.0 in
+          let a = passed M mode H (projected ts p) u in
+          let z = onto a (assumed M mode e false w.behind) in
+          let j = test_leaves M laws mode A n H fit e false a w.behind (keeps (projected ts p) f.1 u i) h.behind f.0 in
+          let r = chosen M mode H e (projected ts p) (projected ts q) w in
+          kept (same place (If place e (projected ts p) (projected ts q) Done) (If place e p q Done) w.behind None (λ kind. refl))
+          (drawn-append (entries_by M mode H (projected ts q) z ++ entries_by M mode H (projected ts rest) r) (turns_by M mode H (projected ts q) z ++ turns_by M mode H (projected ts rest) r) _ (drawn p u i f.1)
+          (drawn-append (entries_by M mode H (projected ts rest) r) (turns_by M mode H (projected ts rest) r) _ (drawn q z j f.2)
+          (drawn rest r (sides_leaves M laws mode A n H fit e (projected ts p) (projected ts q) f.0 f.1 f.2 w h) f.3)))
+      drawn (While place e step body rest) w h f =
           let p = projected ts step in
           let q = projected ts body in
-          let F = head_by M mode H place e p q x in
-          let y = assumed M mode e true F in
-          let z = assumed M mode e false F in
-          let i = fit.answers place e p q x h k f.0 f.1 f.2 in
-          let t = answers_then x F y i (A.assumed_answers e true F (suits M laws mode A n H fit e F i.valid (i.same ∙ k) f.0)) in
-          let u = answers_then x F z i (A.assumed_answers e false F (suits M laws mode A n H fit e F i.valid (i.same ∙ k) f.0)) in
-          let a = answers_then x y _ t (keeps_on q y t.valid (t.same ∙ k) f.2) in
-          kept (same place (While place e p q Done) (While place e step body Done) F (Some (x, lap M mode H p q y)) (λ kind. refl))
-          (drawn-append (entries_by M mode H q y ++ entries_by M mode H (projected ts rest) z) (turns_by M mode H q y ++ turns_by M mode H (projected ts rest) z) _
-          (drawn step (passed M mode H q y) a.valid (a.same ∙ k) f.1)
-          (drawn-append (entries_by M mode H (projected ts rest) z) (turns_by M mode H (projected ts rest) z) _
-          (drawn body y t.valid (t.same ∙ k) f.2)
-          (drawn rest z u.valid (u.same ∙ k) f.3)))
-      drawn (Block place body rest) x h k f =
-          let a = keeps_on (projected ts body) x h k f.0 in
-          let y = passed M mode H (projected ts body) x in
-          kept (same place (Block place (projected ts body) Done) (Block place body Done) x None (λ kind. refl))
-          (drawn-append (entries_by M mode H (projected ts rest) y) (turns_by M mode H (projected ts rest) y) _ (drawn body x h k f.0)
-          (drawn rest y a.valid (a.same ∙ k) f.1))
-      drawn (Skip place rest) x h k f = kept (same place (Skip place Done) (Skip place Done) x None (λ kind. refl)) (drawn rest x h k f)
-      drawn (Cond number p q rest) x h k f = group (slice_index_or ts number false) p q rest x (drawn p) (drawn q) (drawn rest) h k f
+          let l = TestFirst e p q in
+          let k : KeepsIn M laws mode A n H fit l = (f.0, keeps p f.1, keeps q f.2) in
+          let x = head_by M mode H place l w.behind in
+          let i = head_leaf M laws mode A n H fit place l (f.0, f.1, f.2, f.4) w.behind h.behind in
+          let t = enter (going_on M (through_body M mode H l x)) in
+          let u = enter (assumed M mode e true x) in
+          let r = behind_by M mode H l w x in
+          kept (same place (While place e p q Done) (While place e step body Done) x (Some (w.behind, lap M mode H l x)) (λ kind. refl))
+          (drawn-append (entries_by M mode H q u ++ entries_by M mode H (projected ts rest) r) (turns_by M mode H q u ++ turns_by M mode H (projected ts rest) r) _
+          (drawn step t (enter_leaves M laws n (going_on M (through_body M mode H l x)) (onward_leaf M laws mode A n H fit l k x i)) f.1)
+          (drawn-append (entries_by M mode H (projected ts rest) r) (turns_by M mode H (projected ts rest) r) _ (drawn body u (within_leaves M laws mode A n H fit e x i f.0) f.2)
+          (drawn rest r (behind_leaves M laws mode A n H fit l k w x h i) f.3)))
+      drawn (Do place body at e rest) w h f =
+          let q = projected ts body in
+          let l = TestLast q at e in
+          let k : KeepsIn M laws mode A n H fit l = (f.0, keeps q f.1) in
+          let x = head_by M mode H place l w.behind in
+          let i = head_leaf M laws mode A n H fit place l (f.0, f.1) w.behind h.behind in
+          let y = going_on M (through_body M mode H l x) in
+          let r = behind_by M mode H l w x in
+          kept (same place (Do place q at e Done) (Do place body at e Done) x (Some (w.behind, lap M mode H l x)) (λ kind. refl))
+          (drawn-append (record { place = at; statement = If at e Done Done Done; leaf = y } ∷ entries_by M mode H (projected ts rest) r) (turns_by M mode H (projected ts rest) r) _ (drawn body (enter x) (enter_leaves M laws n x i) f.1)
+          (kept (same at (If at e Done Done Done) (If at e Done Done Done) y None (λ kind. refl)) (drawn rest r (behind_leaves M laws mode A n H fit l k w x h i) f.2)))
+      drawn (Leave place jump rest) w h f =
+          kept (same place (Leave place jump Done) (Leave place jump Done) w.behind None (λ kind. refl)) (drawn rest (leave_by M mode jump w) (leave_kept M laws mode A n jump w h f.0).leaves f.1)
+      drawn (Block place body rest) w h f =
+          let a = passed M mode H (projected ts body) w in
+          kept (same place (Block place (projected ts body) Done) (Block place body Done) w.behind None (λ kind. refl))
+          (drawn-append (entries_by M mode H (projected ts rest) a) (turns_by M mode H (projected ts rest) a) _ (drawn body w h f.0)
+          (drawn rest a (keeps (projected ts body) f.0 w h) f.1))
+      drawn (Skip place rest) w h f = kept (same place (Skip place Done) (Skip place Done) w.behind None (λ kind. refl)) (drawn rest w h f)
+      drawn (Cond number p q rest) w h f = group (slice_index_or ts number false) p q rest w (drawn p) (drawn q) (drawn rest) h f
 
-      pub drawn_list : (c : Code) (x : LeafValue) → M.valid x → x.variables ≡ n → IsCodeOf n (projected ts c) → IsDrawn (entries_by M mode H (projected ts c) x) (turns_by M mode H (projected ts c) x) (visits_at M mode ts H c x)
+      pub drawn_list : (c : Code) (w : Ways) → AreLeaves M n w → IsCodeOf n (projected ts c) → IsDrawn (entries_by M mode H (projected ts c) w) (turns_by M mode H (projected ts c) w) (visits_at M mode ts H c w)
       unfolding IsDrawnAt
       drawn_list c = drawn c
 

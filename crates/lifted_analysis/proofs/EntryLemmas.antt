@@ -8,11 +8,12 @@ use Rattle.std.specs.declared.vec.Vec.{Vec}
 use Rattle.std.specs.declared.alloc.Global.{Global}
 use Rattle.fam_outer.specs.declared.faults.Place.{Place}
 use Rattle.c_tree.specs.declared.tree.Expr.{Expr}
+use Rattle.c_tree.specs.declared.tree.Jump as jumps
 use Rattle.c_tree.specs.declared.tree.Kind.TheVariants.{Overflow, ZeroDivisor, Assertion}
 use Rattle.c_tree.specs.declared.tree.Stmt.{Stmt}
 use Rattle.c_tree.specs.declared.tree.Stmt.TheVariants as variant
-use Rattle.c_tree.specs.Tree.{Code, Done, Assign, Input, Assert, If, While, Block, Skip, Cond, followed}
-use Rattle.c_tree.specs.View.{term, front, code}
+use Rattle.c_tree.specs.Tree.{Code, Done, Assign, Input, Assert, If, While, Do, Leave, Block, Skip, Cond, followed}
+use Rattle.c_tree.specs.View.{term, jump_of, front, code}
 use Rattle.c_tree.specs.Project.{projected}
 use Rattle.c_tree.proofs.Views.{code-take_more}
 use Rattle.decision_tree.specs.declared.tree.Tree.{Tree}
@@ -25,21 +26,21 @@ use Rattle.leaf_domain.specs.Leaves.{LeafValue, LeafMeaning}
 use Rattle.leaf_domain.specs.Stops.{may_at}
 use Rattle.leaf_domain.specs.Transfer.{assumed, assigned, forgotten}
 use Rattle.c_tree.specs.declared.tree.Mode.{Mode}
-use Rattle.plain_analysis.specs.Statements.{Heads, passed, head_by}
-use Rattle.plain_analysis.proofs.Listed.{front-If, front-While, front-Block}
+use Rattle.plain_analysis.specs.Statements.{Heads, TestFirst, TestLast, passed, chosen, head_by, behind_by}
+use Rattle.plain_analysis.specs.Ways.{Ways, onto, enter, leave_by, going_on}
+use Rattle.plain_analysis.proofs.Listed.{passed-followed, front-If, front-While, front-Do, front-Leave, front-Block}
 use Rattle.tree_unify.specs.Leafwise.{TestsAreOf}
 use Rattle.lifted_analysis.specs.declared.noted.Noted.{Noted}
 use Rattle.lifted_analysis.specs.declared.noted.TurnTree.{TurnTree}
 use Rattle.lifted_analysis.specs.declared.family_context.FamilyContext.{FamilyContext}
 use Rattle.lifted_analysis.specs.declared.findings.PlaceTree.{PlaceTree}
 use Rattle.lifted_analysis.specs.declared.findings.AlarmTree.{AlarmTree}
-use Rattle.lifted_analysis.specs.Entries.{Visit, visits_at, loop_visit, leaves_in, stops_in, turn_of, turns_in, leaf_there, stop_there, turn_there, IsReducedTree, IsSizedTurn, AreReduced, AreReducedStops, AreSized, HasEntered}
+use Rattle.lifted_analysis.specs.Entries.{Visit, plain_visit, loop_visit, body_at, first_group, visits_at, visits_both, visits_in, leaves_in, stops_in, turn_of, turns_in, leaf_there, stop_there, turn_there, IsReducedTree, IsSizedTurn, AreReduced, AreReducedStops, AreSized, HasEntered}
 use Rattle.lifted_analysis.specs.Rules.{heads_where}
 use Rattle.lifted_analysis.specs.States.{IsState, IsSized}
-use Rattle.lifted_analysis.specs.Steps.{kept_by}
+use Rattle.lifted_analysis.specs.Steps.{kept_by, parts_at}
 use Rattle.lifted_analysis.specs.Turns.{Turn}
-use Rattle.lifted_analysis.proofs.FamilyLemmas.{front-Cond}
-use Rattle.lifted_analysis.proofs.PassedLemmas.{passed-followed}
+use Rattle.lifted_analysis.proofs.FamilyLemmas.{front-Skip, front-Cond}
 
 onward : {A : Type 0} (old mid new x y z : List A) → mid ≡ old ++ x → new ≡ mid ++ y → z ≡ x ++ y → new ≡ old ++ z
 onward old mid new x y z e f g = f ∙ (ap (λ l. l ++ y) e ∙ (append_assoc old x y ∙ ap (λ l. old ++ l) (sym g)))
@@ -138,6 +139,11 @@ module _ {L : Type 0} (value : L → LeafValue) (M : LeafMeaning) (family : Fami
         sized = λ r. subst (AreSized value family) (sym turns) r;
       }
 
+  -- behind a call that notes nothing
+  pub if_entered : {X E : Type 0} (made : Result X E) (a b : Noted L) (xs ys : List Bool → List Visit) → ((v : List Bool) → xs v ≡ ys v) → HasEntered value M family a b xs → OnOk made (HasEntered value M family a b ys)
+  if_entered (Ok x) a b xs ys e h = entered_as a b xs ys e h
+  if_entered (Err x) a b xs ys e h = tt
+
   -- what was noted apart, from nothing on, behind what was noted so far
   pub entered_behind : (a n b z : Noted L) (ys : List Bool → List Visit) → n.places.items ≡ [] → n.alarms.items ≡ [] → n.turns.items ≡ [] → HasEntered value M family n b ys
       → z.places.items ≡ a.places.items ++ b.places.items → z.alarms.items ≡ a.alarms.items ++ b.alarms.items → z.turns.items ≡ a.turns.items ++ b.turns.items → HasEntered value M family a z ys
@@ -191,66 +197,98 @@ module _ (M : LeafMeaning) (mode : Mode) (ts : List Bool) where
   sides_more : (xs ys zs us ws : List Visit) → us ≡ zs ++ ws → xs ++ (ys ++ us) ≡ (xs ++ (ys ++ zs)) ++ ws
   sides_more xs ys zs us ws h = ap (λ l. xs ++ (ys ++ l)) h ∙ (ap (λ l. xs ++ l) (sym (append_assoc ys zs ws)) ∙ sym (append_assoc xs (ys ++ zs) ws))
 
-  pub visits_at-followed : (H : Heads) (a b : Code) (x : LeafValue) → visits_at M mode ts H (followed a b) x ≡ visits_at M mode ts H a x ++ visits_at M mode ts H b (passed M mode H (projected ts a) x)
-  visits_at-followed H Done b x = refl
-  visits_at-followed H (Assign place y e rest) b x =
-      ap (λ l. record { place = place; statement = Assign place y e Done; leaf = x; turn = None } ∷ l) (visits_at-followed H rest b (assigned M mode y e x))
-  visits_at-followed H (Input place y rest) b x =
-      ap (λ l. record { place = place; statement = Input place y Done; leaf = x; turn = None } ∷ l) (visits_at-followed H rest b (forgotten M y x))
-  visits_at-followed H (Assert place e rest) b x =
-      ap (λ l. record { place = place; statement = Assert place e Done; leaf = x; turn = None } ∷ l) (visits_at-followed H rest b (assumed M mode e true x))
-  visits_at-followed H (If place e p q rest) b x =
-      three_more (visits_at M mode ts H p (assumed M mode e true x)) (visits_at M mode ts H q (assumed M mode e false x)) _ _ _ _
-      (visits_at-followed H rest b (M.join (passed M mode H (projected ts p) (assumed M mode e true x)) (passed M mode H (projected ts q) (assumed M mode e false x))))
-  visits_at-followed H (While place e step body rest) b x =
-      let y = head_by M mode H place e (projected ts step) (projected ts body) x in
-      let t = assumed M mode e true y in
-      three_more (visits_at M mode ts H step (passed M mode H (projected ts body) t)) (visits_at M mode ts H body t) _ _ _ _ (visits_at-followed H rest b (assumed M mode e false y))
-  visits_at-followed H (Block place body rest) b x = two_more (visits_at M mode ts H body x) _ _ _ _ (visits_at-followed H rest b (passed M mode H (projected ts body) x))
-  visits_at-followed H (Skip place rest) b x =
-      ap (λ l. record { place = place; statement = Skip place Done; leaf = x; turn = None } ∷ l) (visits_at-followed H rest b x)
-  visits_at-followed H (Cond number p q rest) b x =
+  pub visits_at-followed : (H : Heads) (a b : Code) (w : Ways) → visits_at M mode ts H (followed a b) w ≡ visits_at M mode ts H a w ++ visits_at M mode ts H b (passed M mode H (projected ts a) w)
+  visits_at-followed H Done b w = refl
+  visits_at-followed H (Assign place y e rest) b w =
+      ap (λ l. plain_visit place (Assign place y e Done) w.behind ∷ l) (visits_at-followed H rest b (onto w (assigned M mode y e w.behind)))
+  visits_at-followed H (Input place y rest) b w =
+      ap (λ l. plain_visit place (Input place y Done) w.behind ∷ l) (visits_at-followed H rest b (onto w (forgotten M y w.behind)))
+  visits_at-followed H (Assert place e rest) b w =
+      ap (λ l. plain_visit place (Assert place e Done) w.behind ∷ l) (visits_at-followed H rest b (onto w (assumed M mode e true w.behind)))
+  visits_at-followed H (If place e p q rest) b w =
+      let u = onto w (assumed M mode e true w.behind) in
+      three_more (visits_at M mode ts H p u) (visits_at M mode ts H q (onto (passed M mode H (projected ts p) u) (assumed M mode e false w.behind))) _ _ _ _
+      (visits_at-followed H rest b (chosen M mode H e (projected ts p) (projected ts q) w))
+  visits_at-followed H (While place e step body rest) b w =
+      let l = TestFirst e step body in
+      let y = head_by M mode H place (parts_at ts l) w.behind in
+      three_more (visits_at M mode ts H step (enter (going_on M (body_at M mode ts H l y)))) (visits_at M mode ts H body (enter (assumed M mode e true y))) _ _ _ _
+      (visits_at-followed H rest b (behind_by M mode H (parts_at ts l) w y))
+  visits_at-followed H (Do place body at e rest) b w =
+      let l = TestLast body at e in
+      let y = head_by M mode H place (parts_at ts l) w.behind in
+      let u = behind_by M mode H (parts_at ts l) w y in
+      let test = plain_visit at (If at e Done Done Done) (going_on M (body_at M mode ts H l y)) in
+      two_more (visits_at M mode ts H body (enter y)) (test ∷ visits_at M mode ts H rest u) (test ∷ visits_at M mode ts H (followed rest b) u) (visits_at M mode ts H b (passed M mode H (projected ts rest) u))
+      (loop_visit M mode ts H place (Do place body at e Done) l w.behind) (ap (λ l. test ∷ l) (visits_at-followed H rest b u))
+  visits_at-followed H (Leave place jump rest) b w =
+      ap (λ l. plain_visit place (Leave place jump Done) w.behind ∷ l) (visits_at-followed H rest b (leave_by M mode jump w))
+  visits_at-followed H (Block place body rest) b w = two_more (visits_at M mode ts H body w) _ _ _ _ (visits_at-followed H rest b (passed M mode H (projected ts body) w))
+  visits_at-followed H (Skip place rest) b w = ap (λ l. plain_visit place (Skip place Done) w.behind ∷ l) (visits_at-followed H rest b w)
+  visits_at-followed H (Cond number p q rest) b w =
       let c = slice_index_or ts number false in
       let side = if c then projected ts p else projected ts q in
-      sides_more (visits_at M mode ts (heads_where c H) p (kept_by true c x)) (visits_at M mode ts (heads_where (not c) H) q (kept_by false c x))
-      (visits_at M mode ts H rest (passed M mode H side x)) _ (visits_at M mode ts H b (passed M mode H (followed side (projected ts rest)) x))
-      (visits_at-followed H rest b (passed M mode H side x)
-      ∙ ap (λ y. visits_at M mode ts H rest (passed M mode H side x) ++ visits_at M mode ts H b y) (sym (passed-followed M mode H side (projected ts rest) x)))
+      sides_more (visits_at M mode ts (heads_where c H) p (onto w (kept_by true c w.behind))) (visits_at M mode ts (heads_where (not c) H) q (onto (first_group M mode ts H c p w) (kept_by false c w.behind)))
+      (visits_at M mode ts H rest (passed M mode H side w)) _ (visits_at M mode ts H b (passed M mode H (followed side (projected ts rest)) w))
+      (visits_at-followed H rest b (passed M mode H side w)
+      ∙ ap (λ y. visits_at M mode ts H rest (passed M mode H side w) ++ visits_at M mode ts H b y) (sym (passed-followed M mode H side (projected ts rest) w)))
 
   -- one more statement of a list
-  pub visits_at-more : (H : Heads) (list : List Stmt) (i : ℕ) (s : Stmt) (x : LeafValue) → i < length list → s ≡ get_or list i s
-      → visits_at M mode ts H (code (take i list)) x ++ visits_at M mode ts H (front s Done) (passed M mode H (projected ts (code (take i list))) x) ≡ visits_at M mode ts H (code (take (i + 1) list)) x
-  visits_at-more H list i s x h e = sym (ap (λ c. visits_at M mode ts H c x) (code-take_more list i s h e) ∙ visits_at-followed H (code (take i list)) (front s Done) x)
+  pub visits_at-more : (H : Heads) (list : List Stmt) (i : ℕ) (s : Stmt) (w : Ways) → i < length list → s ≡ get_or list i s
+      → visits_at M mode ts H (code (take i list)) w ++ visits_at M mode ts H (front s Done) (passed M mode H (projected ts (code (take i list))) w) ≡ visits_at M mode ts H (code (take (i + 1) list)) w
+  visits_at-more H list i s w h e = sym (ap (λ c. visits_at M mode ts H c w) (code-take_more list i s h e) ∙ visits_at-followed H (code (take i list)) (front s Done) w)
 
-  pub visits_at-If : (H : Heads) (s : Stmt) (place : Place) (e : Expr) (p q : Vec Stmt Global) (x : LeafValue) → s ≡ variant.If place e p q
-      → (record { place = place; statement = front s Done; leaf = x; turn = None } ∷ []) ++ (visits_at M mode ts H (code p.items) (assumed M mode (term e) true x) ++ visits_at M mode ts H (code q.items) (assumed M mode (term e) false x))
-      ≡ visits_at M mode ts H (front s Done) x
-  visits_at-If H s place e p q x h =
+  -- a statement by its tree
+  pub visits_at-If : (H : Heads) (s : Stmt) (place : Place) (e : Expr) (p q : Vec Stmt Global) (w : Ways) → s ≡ variant.If place e p q
+      → (plain_visit place (front s Done) w.behind ∷ []) ++ visits_both M mode ts H H (code p.items) (code q.items) (onto w (assumed M mode (term e) true w.behind)) (assumed M mode (term e) false w.behind)
+      ≡ visits_at M mode ts H (front s Done) w
+  visits_at-If H s place e p q w h =
       let f : front s Done ≡ If place (term e) (code p.items) (code q.items) Done = ap (λ s. front s Done) h ∙ front-If place e p q in
-      rw f (ap (λ l. record { place = place; statement = If place (term e) (code p.items) (code q.items) Done; leaf = x; turn = None } ∷ (visits_at M mode ts H (code p.items) (assumed M mode (term e) true x) ++ l)) (sym (append-nil (visits_at M mode ts H (code q.items) (assumed M mode (term e) false x)))))
+      let u = onto w (assumed M mode (term e) true w.behind) in
+      rw f (ap (λ l. plain_visit place (If place (term e) (code p.items) (code q.items) Done) w.behind ∷ (visits_at M mode ts H (code p.items) u ++ l))
+      (sym (append-nil (visits_at M mode ts H (code q.items) (onto (passed M mode H (projected ts (code p.items)) u) (assumed M mode (term e) false w.behind))))))
 
-  pub visits_at-While : (H : Heads) (s : Stmt) (place : Place) (e : Expr) (step body : Vec Stmt Global) (x : LeafValue) → s ≡ variant.While place e step body
-      → let t = assumed M mode (term e) true (head_by M mode H place (term e) (projected ts (code step.items)) (projected ts (code body.items)) x) in
-      loop_visit M mode ts H place (front s Done) (term e) (code step.items) (code body.items) x
-      ∷ (visits_at M mode ts H (code step.items) (passed M mode H (projected ts (code body.items)) t) ++ visits_at M mode ts H (code body.items) t)
-      ≡ visits_at M mode ts H (front s Done) x
-  visits_at-While H s place e step body x h =
+  pub visits_at-While : (H : Heads) (s : Stmt) (place : Place) (e : Expr) (step body : Vec Stmt Global) (w : Ways) → s ≡ variant.While place e step body
+      → (let l = TestFirst (term e) (code step.items) (code body.items) in
+      loop_visit M mode ts H place (front s Done) l w.behind ∷ visits_in M mode ts H l (head_by M mode H place (parts_at ts l) w.behind)) ≡ visits_at M mode ts H (front s Done) w
+  visits_at-While H s place e step body w h =
       let f : front s Done ≡ While place (term e) (code step.items) (code body.items) Done = ap (λ s. front s Done) h ∙ front-While place e step body in
-      let t = assumed M mode (term e) true (head_by M mode H place (term e) (projected ts (code step.items)) (projected ts (code body.items)) x) in
-      rw f (ap (λ l. loop_visit M mode ts H place (While place (term e) (code step.items) (code body.items) Done) (term e) (code step.items) (code body.items) x ∷ (visits_at M mode ts H (code step.items) (passed M mode H (projected ts (code body.items)) t) ++ l)) (sym (append-nil (visits_at M mode ts H (code body.items) t))))
+      let l = TestFirst (term e) (code step.items) (code body.items) in
+      let y = head_by M mode H place (parts_at ts l) w.behind in
+      rw f (ap (λ k. loop_visit M mode ts H place (While place (term e) (code step.items) (code body.items) Done) l w.behind ∷ (visits_at M mode ts H (code step.items) (enter (going_on M (body_at M mode ts H l y))) ++ k))
+      (sym (append-nil (visits_at M mode ts H (code body.items) (enter (assumed M mode (term e) true y))))))
 
-  pub visits_at-Block : (H : Heads) (s : Stmt) (place : Place) (body : Vec Stmt Global) (x : LeafValue) → s ≡ variant.Block place body
-      → (record { place = place; statement = front s Done; leaf = x; turn = None } ∷ []) ++ visits_at M mode ts H (code body.items) x ≡ visits_at M mode ts H (front s Done) x
-  visits_at-Block H s place body x h =
+  pub visits_at-Do : (H : Heads) (s : Stmt) (place : Place) (body : Vec Stmt Global) (at : Place) (e : Expr) (w : Ways) → s ≡ variant.Do place body at e
+      → (let l = TestLast (code body.items) at (term e) in
+      loop_visit M mode ts H place (front s Done) l w.behind ∷ visits_in M mode ts H l (head_by M mode H place (parts_at ts l) w.behind)) ≡ visits_at M mode ts H (front s Done) w
+  visits_at-Do H s place body at e w h =
+      let f : front s Done ≡ Do place (code body.items) at (term e) Done = ap (λ s. front s Done) h ∙ front-Do place body at e in
+      rw f refl
+
+  pub visits_at-Leave : (H : Heads) (s : Stmt) (place : Place) (jump : jumps.Jump) (w : Ways) → s ≡ variant.Leave place jump → plain_visit place (front s Done) w.behind ∷ [] ≡ visits_at M mode ts H (front s Done) w
+  visits_at-Leave H s place jump w h =
+      let f : front s Done ≡ Leave place (jump_of jump) Done = ap (λ s. front s Done) h ∙ front-Leave place jump in
+      rw f refl
+
+  pub visits_at-Skip : (H : Heads) (s : Stmt) (place : Place) (w : Ways) → s ≡ variant.Skip place → plain_visit place (front s Done) w.behind ∷ [] ≡ visits_at M mode ts H (front s Done) w
+  visits_at-Skip H s place w h =
+      let f : front s Done ≡ Skip place Done = ap (λ s. front s Done) h ∙ front-Skip place in
+      rw f refl
+
+  pub visits_at-Block : (H : Heads) (s : Stmt) (place : Place) (body : Vec Stmt Global) (w : Ways) → s ≡ variant.Block place body
+      → (plain_visit place (front s Done) w.behind ∷ []) ++ visits_at M mode ts H (code body.items) w ≡ visits_at M mode ts H (front s Done) w
+  visits_at-Block H s place body w h =
       let f : front s Done ≡ Block place (code body.items) Done = ap (λ s. front s Done) h ∙ front-Block place body in
-      rw f (ap (λ l. record { place = place; statement = Block place (code body.items) Done; leaf = x; turn = None } ∷ l) (sym (append-nil (visits_at M mode ts H (code body.items) x))))
+      rw f (ap (λ l. plain_visit place (Block place (code body.items) Done) w.behind ∷ l) (sym (append-nil (visits_at M mode ts H (code body.items) w))))
 
-  pub visits_at-Cond : (H : Heads) (s : Stmt) (number : ℕ) (p q : Vec Stmt Global) (b : Bool) (x : LeafValue) → s ≡ variant.Cond number p q → slice_index_or ts number false ≡ b
-      → visits_at M mode ts (heads_where b H) (code p.items) (kept_by true b x) ++ visits_at M mode ts (heads_where (not b) H) (code q.items) (kept_by false b x) ≡ visits_at M mode ts H (front s Done) x
-  visits_at-Cond H s number p q b x h e =
+  pub visits_at-Cond : (H : Heads) (s : Stmt) (number : ℕ) (p q : Vec Stmt Global) (b : Bool) (w : Ways) → s ≡ variant.Cond number p q → slice_index_or ts number false ≡ b
+      → visits_both M mode ts (heads_where b H) (heads_where (not b) H) (code p.items) (code q.items) (onto w (kept_by true b w.behind)) (kept_by false b w.behind) ≡ visits_at M mode ts H (front s Done) w
+  visits_at-Cond H s number p q b w h e =
       let f : front s Done ≡ Cond number (code p.items) (code q.items) Done = ap (λ s. front s Done) h ∙ front-Cond number p q in
-      ap (λ c. visits_at M mode ts (heads_where c H) (code p.items) (kept_by true c x) ++ visits_at M mode ts (heads_where (not c) H) (code q.items) (kept_by false c x)) (sym e)
-      ∙ rw f (ap (λ l. visits_at M mode ts (heads_where (slice_index_or ts number false) H) (code p.items) (kept_by true (slice_index_or ts number false) x) ++ l) (sym (append-nil (visits_at M mode ts (heads_where (not (slice_index_or ts number false)) H) (code q.items) (kept_by false (slice_index_or ts number false) x)))))
+      let c = slice_index_or ts number false in
+      ap (λ c. visits_both M mode ts (heads_where c H) (heads_where (not c) H) (code p.items) (code q.items) (onto w (kept_by true c w.behind)) (kept_by false c w.behind)) (sym e)
+      ∙ rw f (ap (λ l. visits_at M mode ts (heads_where c H) (code p.items) (onto w (kept_by true c w.behind)) ++ l)
+      (sym (append-nil (visits_at M mode ts (heads_where (not c) H) (code q.items) (onto (first_group M mode ts H c (code p.items) w) (kept_by false c w.behind))))))
 
 pub reduced_push : {X : Type 0} (P : X → Type 0) (xs ys : List X) (x : X) → ys ≡ xs ++ x ∷ [] → P x → All P xs → All P ys
 reduced_push P xs ys x e p h = subst (All P) (sym e) (All-append P xs (x ∷ []) h (All-cons P x [] p (All-nil P)))

@@ -4,7 +4,6 @@ use Rattle.std.specs.Prelude.{OnOk}
 use Rattle.std.specs.List.{AllByRecursion}
 use Rattle.std.specs.Map.{lookup}
 use Rattle.indexmap.specs.IndexMap.{insert_entry}
-use Rattle.c_tree.specs.Tree.{Term, Code}
 use Rattle.c_tree.specs.View.{whole}
 use Rattle.decision_tree.specs.declared.tree.Tree.{Tree}
 use Rattle.decision_tree.specs.Listed.{Keeps}
@@ -14,6 +13,9 @@ use Rattle.decision_tree.specs.View.{numbered}
 use Rattle.decision_tree.proofs.Numbers.{keeps_same, numbers_tell}
 use Rattle.leaf_domain.specs.Leaves.{LeafValue, LeafMeaning}
 use Rattle.plain_analysis.specs.Stated.{IsLoopAt}
+use Rattle.plain_analysis.specs.Statements.{LoopParts}
+use Rattle.plain_analysis.specs.declared.ways.Ways.{Ways}
+use Rattle.plain_analysis.specs.Ways as spec
 use Rattle.plain_analysis.proofs.FinalsLemmas.{same_numbers, of_eqb, left_of, right_of}
 use Rattle.plain_analysis.proofs.StatedLemmas.{one_loop}
 use Rattle.plain_analysis.proofs.TableLemmas.{found_entry, inserted_entry}
@@ -21,7 +23,7 @@ use Rattle.lifted_analysis.specs.declared.family_context.FamilyContext.{FamilyCo
 use Rattle.lifted_analysis.specs.declared.finals.Entered.{Entered}
 use Rattle.lifted_analysis.specs.declared.finals.Finals.{Finals}
 use Rattle.lifted_analysis.specs.Finals.{same_entered, IsFinal, Remembers}
-use Rattle.lifted_analysis.specs.States.{IsState, IsLifted, IsJoint}
+use Rattle.lifted_analysis.specs.States.{IsState, IsLifted, AreMade}
 use Rattle.lifted_analysis.specs.Steps.{final_at}
 use Rattle.lifted_analysis.proofs.StateLemmas.{state_stays, state_as}
 
@@ -53,14 +55,14 @@ module _ {L : Type 0} (value : L → LeafValue) (M : LeafMeaning) (family : Fami
   pub memory_same : (a b : List (Plain L)) (f : Finals L) → b ≡ a → Remembers value M family a f → Remembers value M family b f
   memory_same a b f e m = subst (λ forest. Remembers value M family forest f) (sym e) m
 
-  -- behind a step, and behind a step of two trees
+  -- behind a step, and behind what was passed
   pub memory_lifted : {E : Type 0} (made : Result (Tree L) E) (a b : List (Plain L)) (f : Finals L) (g : List Bool → LeafValue → LeafValue) (t : Plain L) → IfOk made (λ r. IsLifted value family a b g t (numbered r)) → Remembers value M family a f → OnOk made (Remembers value M family b f)
   memory_lifted (Ok r) a b f g t h m = memory_stays a b f h.keeps m
   memory_lifted (Err e) a b f g t h m = tt
 
-  pub memory_joint : {E : Type 0} (made : Result (Tree L) E) (a b : List (Plain L)) (f : Finals L) (g : List Bool → LeafValue → LeafValue → LeafValue) (t u : Plain L) → IfOk made (λ r. IsJoint value family a b g t u (numbered r)) → Remembers value M family a f → OnOk made (Remembers value M family b f)
-  memory_joint (Ok r) a b f g t u h m = memory_stays a b f h.keeps m
-  memory_joint (Err e) a b f g t u h m = tt
+  pub memory_made : {E : Type 0} (made : Result (Ways (Tree L)) E) (a b : List (Plain L)) (f : Finals L) (G : List Bool → spec.Ways) → IfOk made (λ r. AreMade value family a b G r) → Remembers value M family a f → OnOk made (Remembers value M family b f)
+  memory_made (Ok r) a b f G h m = memory_stays a b f h.keeps m
+  memory_made (Err e) a b f G h m = tt
 
   pub memory_empty : (forest : List (Plain L)) (f : Finals L) → f.entries.entries ≡ [] → Remembers value M family forest f
   memory_empty forest f e = record { each = subst (λ es. AllByRecursion (λ (d : Entered × Tree L). IsFinal value M family forest d.0 d.1) es) (sym e) tt }
@@ -73,35 +75,32 @@ module _ {L : Type 0} (value : L → LeafValue) (M : LeafMeaning) (family : Fami
       subst (λ j. IsFinal value M family forest j last) (sym (same_key k at.0 at.2)) at.1
 
   -- what is found is the final tree
-  pub recalled_made : {E : Type 0} (made : Result (Tree L) E) (forest : List (Plain L)) (f : Finals L) (k : Entered) (last : Tree L) (t : Numbered L) (test : Term) (step body : Code)
-      → Remembers value M family forest f → lookup (same_entered k) f.entries.entries ≡ Some last → root t ≡ k.number → IsState value family forest t → IsLoopAt (whole family.program.now) k.place test step body
-      → IfOk made (λ r. numbered r ≡ numbered last) → IfOk made (λ r. IsLifted value family forest forest (final_at M family test step body) (erase t) (numbered r))
-  recalled_made (Ok r) forest f k last t test step body m e n s here is =
+  pub recalled_made : {E : Type 0} (made : Result (Tree L) E) (forest : List (Plain L)) (f : Finals L) (k : Entered) (last : Tree L) (t : Numbered L) (l : LoopParts)
+      → Remembers value M family forest f → lookup (same_entered k) f.entries.entries ≡ Some last → root t ≡ k.number → IsState value family forest t → IsLoopAt (whole family.program.now) k.place l
+      → IfOk made (λ r. numbered r ≡ numbered last) → IfOk made (λ r. IsLifted value family forest forest (final_at M family l) (erase t) (numbered r))
+  recalled_made (Ok r) forest f k last t l m e n s here is =
       let known = recalled forest f k last m e in
       let same : erase known.entered ≡ erase t = (numbers_tell forest known.entered t known.own s.tree.own).0 (known.number ∙ sym n) in
       record {
         state = state_as value family forest (numbered last) (numbered r) is known.state;
         keeps = keeps_same forest forest refl;
-        at_each = λ v. ap (λ u. value (leaf_of (erase u) v)) is ∙ (known.final test step body here v ∙ ap (λ u. final_at M family test step body v (value (leaf_of u v))) same);
+        at_each = λ v. ap (λ u. value (leaf_of (erase u) v)) is ∙ (known.final l here v ∙ ap (λ u. final_at M family l v (value (leaf_of u v))) same);
       }
-  recalled_made (Err x) forest f k last t test step body m e n s here is = tt
+  recalled_made (Err x) forest f k last t l m e n s here is = tt
 
   -- one more is remembered
-  pub remembered : (a b : List (Plain L)) (f g : Finals L) (k : Entered) (last : Tree L) (t : Numbered L) (r : Numbered L) (test : Term) (step body : Code)
-      → Remembers value M family b f → root t ≡ k.number → IsState value family a t → IsLoopAt (whole family.program.now) k.place test step body
-      → IsLifted value family a b (final_at M family test step body) (erase t) r → numbered last ≡ r → g.entries.entries ≡ insert_entry same_entered f.entries.entries k last → Remembers value M family b g
-  remembered a b f g k last t r test step body m n s here is same e =
+  pub remembered : (a b : List (Plain L)) (f g : Finals L) (k : Entered) (last : Tree L) (t : Numbered L) (r : Numbered L) (l : LoopParts)
+      → Remembers value M family b f → root t ≡ k.number → IsState value family a t → IsLoopAt (whole family.program.now) k.place l
+      → IsLifted value family a b (final_at M family l) (erase t) r → numbered last ≡ r → g.entries.entries ≡ insert_entry same_entered f.entries.entries k last → Remembers value M family b g
+  remembered a b f g k last t r l m n s here is same e =
       let final : IsFinal value M family b k last = record {
         entered = t;
         number = n;
         own = is.keeps.stay t s.tree.own;
         state = state_as value family b r (numbered last) same is.state;
-        final = λ test' step' body' there v.
-            let one = one_loop (whole family.program.now) k.place test test' step step' body body' here there in
-            let x = value (leaf_of (erase t) v) in
+        final = λ l' there v.
             ap (λ u. value (leaf_of (erase u) v)) same
-            ∙ (is.at_each v
-            ∙ (ap (λ q. final_at M family q step body v x) one.0 ∙ (ap (λ c. final_at M family test' c body v x) one.1 ∙ ap (λ c. final_at M family test' step' c v x) one.2)));
+            ∙ (is.at_each v ∙ ap (λ m. final_at M family m v (value (leaf_of (erase t) v))) (one_loop (whole family.program.now) k.place l l' here there));
       } in
       record {
         each = subst (λ es. AllByRecursion (λ (d : Entered × Tree L). IsFinal value M family b d.0 d.1) es) (sym e)

@@ -8,7 +8,7 @@ use Rattle.c_tree.specs.declared.tree.Kind.TheVariants.{Overflow, ZeroDivisor, A
 use Rattle.c_tree.specs.Fit.{IsPlain}
 use Rattle.c_tree.specs.Places.{places_of, program_places}
 use Rattle.c_tree.specs.Project.{projected, projected_program}
-use Rattle.c_tree.specs.Tree.{Code, Done, Assign, Input, Assert, If, While, Block, Skip, Cond, Whole}
+use Rattle.c_tree.specs.Tree.{Code, Done, Assign, Input, Assert, If, While, Do, Leave, Block, Skip, Cond, Whole}
 use Rattle.fam_outer.specs.Places.{is_before}
 use Rattle.c_tree.specs.Whole.{IsBeforeAll, IsRising, IsProgram}
 use Rattle.c_tree.proofs.Wholes.{IsPlain-projected, IsProgram-projected}
@@ -18,12 +18,13 @@ use Rattle.leaf_domain.specs.Stops.{may_at}
 use Rattle.leaf_domain.specs.Transfer.{assumed, assigned, forgotten}
 use Rattle.c_tree.specs.declared.tree.Mode.{Mode}
 use Rattle.plain_analysis.specs.Places.{is_same_place, entry_in, leaf_or, at_by, may_stop, alarm_by}
-use Rattle.plain_analysis.specs.Statements.{Heads, Entry, passed, head_by, entries_by}
+use Rattle.plain_analysis.specs.Statements.{Heads, Entry, passed, entries_by}
+use Rattle.plain_analysis.specs.Ways.{Ways, onto, enter, leave_by, end_of}
+use Rattle.plain_analysis.proofs.Kept.{enter_leaves}
 use Rattle.plain_analysis.proofs.Located.{none_at_end, same_places, at_end}
 use Rattle.lifted_analysis.specs.Entries.{Visit, visits_at, leaves_in, stops_in, turns_in}
 use Rattle.lifted_analysis.specs.Promises.{by_kind}
 use Rattle.lifted_analysis.specs.Rules.{heads_where}
-use Rattle.lifted_analysis.specs.Steps.{kept_by}
 use Rattle.lifted_analysis.specs.Turns.{Turn, turns_by, is_inductive, inductive_in, loop_places}
 use Rattle.lifted_analysis.proofs.Drawn.{place_of, from, over, IsSame, IsDrawn, drawn_list, matched, asked, loops_matched}
 use Rattle.lifted_analysis.proofs.PassedLemmas.{AreFit}
@@ -48,68 +49,59 @@ module _ (M : LeafMeaning) (mode : Mode) (ts : List Bool) where
   three_parts : (xs ys zs : List Visit) → map place_of (xs ++ (ys ++ zs)) ≡ map place_of xs ++ (map place_of ys ++ map place_of zs)
   three_parts xs ys zs = map-append place_of xs (ys ++ zs) ∙ ap (λ l. map place_of xs ++ l) (map-append place_of ys zs)
 
-  pub places_at : (H : Heads) (c : Code) (x : LeafValue) → map place_of (visits_at M mode ts H c x) ≡ places_of c
+  pub places_at : (H : Heads) (c : Code) (w : Ways) → map place_of (visits_at M mode ts H c w) ≡ places_of c
   unfolding place_of
-  places_at H Done x = refl
-  places_at H (Assign place y e rest) x = ap (λ l. place ∷ l) (places_at H rest (assigned M mode y e x))
-  places_at H (Input place y rest) x = ap (λ l. place ∷ l) (places_at H rest (forgotten M y x))
-  places_at H (Assert place e rest) x = ap (λ l. place ∷ l) (places_at H rest (assumed M mode e true x))
-  places_at H (If place e p q rest) x =
-      let t = assumed M mode e true x in
-      let f = assumed M mode e false x in
-      let j = M.join (passed M mode H (projected ts p) t) (passed M mode H (projected ts q) f) in
-      ap (λ l. place ∷ l) (three_parts (visits_at M mode ts H p t) (visits_at M mode ts H q f) (visits_at M mode ts H rest j)
-      ∙ sides _ _ _ _ _ _ (places_at H p t) (places_at H q f) (places_at H rest j))
-  places_at H (While place e step body rest) x =
-      let F = head_by M mode H place e (projected ts step) (projected ts body) x in
-      let t = assumed M mode e true F in
-      let f = assumed M mode e false F in
-      let r = passed M mode H (projected ts body) t in
-      ap (λ l. place ∷ l) (three_parts (visits_at M mode ts H step r) (visits_at M mode ts H body t) (visits_at M mode ts H rest f)
-      ∙ sides _ _ _ _ _ _ (places_at H step r) (places_at H body t) (places_at H rest f))
-  places_at H (Block place body rest) x =
-      let r = passed M mode H (projected ts body) x in
-      ap (λ l. place ∷ l) (map-append place_of (visits_at M mode ts H body x) (visits_at M mode ts H rest r)) ∙ two place _ _ _ _ (places_at H body x) (places_at H rest r)
-  places_at H (Skip place rest) x = ap (λ l. place ∷ l) (places_at H rest x)
-  places_at H (Cond number p q rest) x =
+  places_at H Done w = refl
+  places_at H (Assign place y e rest) w = ap (λ l. place ∷ l) (places_at H rest (onto w (assigned M mode y e w.behind)))
+  places_at H (Input place y rest) w = ap (λ l. place ∷ l) (places_at H rest (onto w (forgotten M y w.behind)))
+  places_at H (Assert place e rest) w = ap (λ l. place ∷ l) (places_at H rest (onto w (assumed M mode e true w.behind)))
+  places_at H (If place e p q rest) w =
+      ap (λ l. place ∷ l) (three_parts (visits_at M mode ts H p _) (visits_at M mode ts H q _) (visits_at M mode ts H rest _)
+      ∙ sides _ _ _ _ _ _ (places_at H p _) (places_at H q _) (places_at H rest _))
+  places_at H (While place e step body rest) w =
+      ap (λ l. place ∷ l) (three_parts (visits_at M mode ts H step _) (visits_at M mode ts H body _) (visits_at M mode ts H rest _)
+      ∙ sides _ _ _ _ _ _ (places_at H step _) (places_at H body _) (places_at H rest _))
+  places_at H (Do place body at e rest) w =
+      ap (λ l. place ∷ l) (map-append place_of (visits_at M mode ts H body _) _)
+      ∙ two place _ _ _ _ (places_at H body _) (ap (λ l. at ∷ l) (places_at H rest _))
+  places_at H (Leave place jump rest) w = ap (λ l. place ∷ l) (places_at H rest (leave_by M mode jump w))
+  places_at H (Block place body rest) w =
+      let r = passed M mode H (projected ts body) w in
+      ap (λ l. place ∷ l) (map-append place_of (visits_at M mode ts H body w) (visits_at M mode ts H rest r)) ∙ two place _ _ _ _ (places_at H body w) (places_at H rest r)
+  places_at H (Skip place rest) w = ap (λ l. place ∷ l) (places_at H rest w)
+  places_at H (Cond number p q rest) w =
       let b = slice_index_or ts number false in
-      let r = passed M mode H (if b then projected ts p else projected ts q) x in
-      three_parts (visits_at M mode ts (heads_where b H) p (kept_by true b x)) (visits_at M mode ts (heads_where (not b) H) q (kept_by false b x)) (visits_at M mode ts H rest r)
-      ∙ sides _ _ _ _ _ _ (places_at (heads_where b H) p (kept_by true b x)) (places_at (heads_where (not b) H) q (kept_by false b x)) (places_at H rest r)
+      three_parts (visits_at M mode ts (heads_where b H) p _) (visits_at M mode ts (heads_where (not b) H) q _) (visits_at M mode ts H rest _)
+      ∙ sides _ _ _ _ _ _ (places_at (heads_where b H) p _) (places_at (heads_where (not b) H) q _) (places_at H rest _)
 
   -- the loops among statements are those of the list
   three_loops : (xs ys zs : List Visit) → loops_in (xs ++ (ys ++ zs)) ≡ loops_in xs ++ (loops_in ys ++ loops_in zs)
   three_loops xs ys zs = loops_in-append xs (ys ++ zs) ∙ ap (λ l. loops_in xs ++ l) (loops_in-append ys zs)
 
-  pub loops_at : (H : Heads) (c : Code) (x : LeafValue) → loops_in (visits_at M mode ts H c x) ≡ loop_places c
+  pub loops_at : (H : Heads) (c : Code) (w : Ways) → loops_in (visits_at M mode ts H c w) ≡ loop_places c
   unfolding loops_in
-  loops_at H Done x = refl
-  loops_at H (Assign place y e rest) x = loops_at H rest (assigned M mode y e x)
-  loops_at H (Input place y rest) x = loops_at H rest (forgotten M y x)
-  loops_at H (Assert place e rest) x = loops_at H rest (assumed M mode e true x)
-  loops_at H (If place e p q rest) x =
-      let t = assumed M mode e true x in
-      let f = assumed M mode e false x in
-      let j = M.join (passed M mode H (projected ts p) t) (passed M mode H (projected ts q) f) in
-      three_loops (visits_at M mode ts H p t) (visits_at M mode ts H q f) (visits_at M mode ts H rest j)
-      ∙ sides _ _ _ _ _ _ (loops_at H p t) (loops_at H q f) (loops_at H rest j)
-  loops_at H (While place e step body rest) x =
-      let F = head_by M mode H place e (projected ts step) (projected ts body) x in
-      let t = assumed M mode e true F in
-      let f = assumed M mode e false F in
-      let r = passed M mode H (projected ts body) t in
-      ap (λ l. place ∷ l) (three_loops (visits_at M mode ts H step r) (visits_at M mode ts H body t) (visits_at M mode ts H rest f)
-      ∙ sides _ _ _ _ _ _ (loops_at H step r) (loops_at H body t) (loops_at H rest f))
-  loops_at H (Block place body rest) x =
-      let r = passed M mode H (projected ts body) x in
-      loops_in-append (visits_at M mode ts H body x) (visits_at M mode ts H rest r)
-      ∙ (ap (λ l. l ++ loops_in (visits_at M mode ts H rest r)) (loops_at H body x) ∙ ap (λ l. loop_places body ++ l) (loops_at H rest r))
-  loops_at H (Skip place rest) x = loops_at H rest x
-  loops_at H (Cond number p q rest) x =
+  loops_at H Done w = refl
+  loops_at H (Assign place y e rest) w = loops_at H rest (onto w (assigned M mode y e w.behind))
+  loops_at H (Input place y rest) w = loops_at H rest (onto w (forgotten M y w.behind))
+  loops_at H (Assert place e rest) w = loops_at H rest (onto w (assumed M mode e true w.behind))
+  loops_at H (If place e p q rest) w =
+      three_loops (visits_at M mode ts H p _) (visits_at M mode ts H q _) (visits_at M mode ts H rest _)
+      ∙ sides _ _ _ _ _ _ (loops_at H p _) (loops_at H q _) (loops_at H rest _)
+  loops_at H (While place e step body rest) w =
+      ap (λ l. place ∷ l) (three_loops (visits_at M mode ts H step _) (visits_at M mode ts H body _) (visits_at M mode ts H rest _)
+      ∙ sides _ _ _ _ _ _ (loops_at H step _) (loops_at H body _) (loops_at H rest _))
+  loops_at H (Do place body at e rest) w =
+      ap (λ l. place ∷ l) (loops_in-append (visits_at M mode ts H body _) _) ∙ two place _ _ _ _ (loops_at H body _) (loops_at H rest _)
+  loops_at H (Leave place jump rest) w = loops_at H rest (leave_by M mode jump w)
+  loops_at H (Block place body rest) w =
+      let r = passed M mode H (projected ts body) w in
+      loops_in-append (visits_at M mode ts H body w) (visits_at M mode ts H rest r)
+      ∙ (ap (λ l. l ++ loops_in (visits_at M mode ts H rest r)) (loops_at H body w) ∙ ap (λ l. loop_places body ++ l) (loops_at H rest r))
+  loops_at H (Skip place rest) w = loops_at H rest w
+  loops_at H (Cond number p q rest) w =
       let b = slice_index_or ts number false in
-      let r = passed M mode H (if b then projected ts p else projected ts q) x in
-      three_loops (visits_at M mode ts (heads_where b H) p (kept_by true b x)) (visits_at M mode ts (heads_where (not b) H) q (kept_by false b x)) (visits_at M mode ts H rest r)
-      ∙ sides _ _ _ _ _ _ (loops_at (heads_where b H) p (kept_by true b x)) (loops_at (heads_where (not b) H) q (kept_by false b x)) (loops_at H rest r)
+      three_loops (visits_at M mode ts (heads_where b H) p _) (visits_at M mode ts (heads_where (not b) H) q _) (visits_at M mode ts H rest _)
+      ∙ sides _ _ _ _ _ _ (loops_at (heads_where b H) p _) (loops_at (heads_where (not b) H) q _) (loops_at H rest _)
 
 after_last : (a b : Place) → IsTrue (is_before a b) → is_same_place b a ≡ false
 after_last a b h = grind arith
@@ -125,13 +117,13 @@ module _ (M : LeafMeaning) (laws : LeafLaws M) (mode : Mode) (A : TransferAnswer
   V = projected_program ts p
 
   abbrev R : List Entry
-  R = entries_by M mode H (projected ts p.body) d
+  R = entries_by M mode H (projected ts p.body) (enter d)
 
   abbrev T : List Turn
-  T = turns_by M mode H (projected ts p.body) d
+  T = turns_by M mode H (projected ts p.body) (enter d)
 
   abbrev E : List Visit
-  E = visits_at M mode ts H p.body d
+  E = visits_at M mode ts H p.body (enter d)
 
   well : IsProgram (projected_program ts p)
   well = IsProgram-projected ts p program
@@ -140,10 +132,10 @@ module _ (M : LeafMeaning) (laws : LeafLaws M) (mode : Mode) (A : TransferAnswer
   plain_body = IsPlain-projected ts p.body
 
   all_drawn : IsDrawn M mode (length p.names) R T E
-  all_drawn = drawn_list M mode (length p.names) laws A program.few ts H fit p.body d valid count well.names
+  all_drawn = drawn_list M mode (length p.names) laws A program.few ts H fit p.body (enter d) (enter_leaves M laws (length p.names) d (record { valid = valid; count = count })) well.names
 
   rising : IsRising (map place_of E ++ p.end ∷ [])
-  rising = subst (λ l. IsRising (l ++ p.end ∷ [])) (sym (places_at M mode ts H p.body d)) program.rising
+  rising = subst (λ l. IsRising (l ++ p.end ∷ [])) (sym (places_at M mode ts H p.body (enter d))) program.rising
 
   abbrev at : Place → LeafValue
   at = at_by M mode H (projected_program ts p) d
@@ -169,7 +161,7 @@ module _ (M : LeafMeaning) (laws : LeafLaws M) (mode : Mode) (A : TransferAnswer
   leaf_at_place : (q : Place) → IsTrue (is_before q p.end) → leaf_or (nothing_of (length p.names)) (entry_in R q) ≡ at q
   leaf_at_place q h =
       ap (λ m. leaf_or (nothing_of m) (entry_in R q)) (sym count)
-      ∙ ap (λ (b : Bool). leaf_or (if b then passed M mode H (projected ts p.body) d else nothing_of d.variables) (entry_in R q)) (sym (after_last q p.end h))
+      ∙ ap (λ (b : Bool). leaf_or (if b then end_of M (passed M mode H (projected ts p.body) (enter d)) else nothing_of d.variables) (entry_in R q)) (sym (after_last q p.end h))
 
   leaves_over : (ps : List Place) → IsRising (ps ++ p.end ∷ []) → over leaf_there_is R ps ≡ map (λ (q : Place). (q, at q)) ps
   leaves_over [] h = refl
@@ -180,14 +172,14 @@ module _ (M : LeafMeaning) (laws : LeafLaws M) (mode : Mode) (A : TransferAnswer
       before_end q [] h = h.0
       before_end q (r ∷ ps) h = before_end q ps h.1
 
-  pub leaves_are : leaves_in E ++ (p.end, passed M mode H (projected ts p.body) d) ∷ [] ≡ map (λ (q : Place). (q, at q)) (program_places p)
+  pub leaves_are : leaves_in E ++ (p.end, end_of M (passed M mode H (projected ts p.body) (enter d))) ∷ [] ≡ map (λ (q : Place). (q, at q)) (program_places p)
   leaves_are =
       let f : Place → Place × LeafValue = λ q. (q, at q) in
       let found : leaves_in E ≡ map f (places_of p.body) =
       leaves_from E ∙ (matched M mode (length p.names) leaf_said leaf_there_is leaf_found leaf_lost (p.end ∷ []) all_drawn rising
-      ∙ (leaves_over (map place_of E) rising ∙ ap (map f) (places_at M mode ts H p.body d)))
+      ∙ (leaves_over (map place_of E) rising ∙ ap (map f) (places_at M mode ts H p.body (enter d))))
       in
-      ap (λ l. l ++ (p.end, passed M mode H (projected ts p.body) d) ∷ []) found
+      ap (λ l. l ++ (p.end, end_of M (passed M mode H (projected ts p.body) (enter d))) ∷ []) found
       ∙ (ap (λ x. map f (places_of p.body) ++ (p.end, x) ∷ []) (sym (at_end M mode H (projected_program ts p) d plain_body well.rising))
       ∙ sym (map-append f (places_of p.body) (p.end ∷ [])))
 
@@ -235,7 +227,7 @@ module _ (M : LeafMeaning) (laws : LeafLaws M) (mode : Mode) (A : TransferAnswer
       let f : Place × Kind → (Place × Kind) × Bool = λ q. stop_at_place q in
       let found : stops_in M mode E ≡ map f (by_kind (places_of p.body)) =
       stops_from E ∙ (matched M mode (length p.names) stop_said stop_there_is stop_found stop_lost (p.end ∷ []) all_drawn rising
-      ∙ (stops_over (map place_of E) ∙ ap (λ l. map f (by_kind l)) (places_at M mode ts H p.body d)))
+      ∙ (stops_over (map place_of E) ∙ ap (λ l. map f (by_kind l)) (places_at M mode ts H p.body (enter d))))
       in
       ap (λ l. l ++ stop_there_is p.end None) found
       ∙ (ap (λ (e : Option Entry). map f (by_kind (places_of p.body)) ++ stop_there_is p.end e) (sym none_last)
@@ -251,4 +243,4 @@ module _ (M : LeafMeaning) (laws : LeafLaws M) (mode : Mode) (A : TransferAnswer
   unfolding loops_in
   loops_are =
       loops_matched M mode (length p.names) laws (p.end ∷ []) all_drawn rising
-      ∙ (asked_at (turns_in E) ∙ ap (map {B = Place × Bool} (λ (q : Place). (q, inductive_in M T q))) (loops_at M mode ts H p.body d))
+      ∙ (asked_at (turns_in E) ∙ ap (map {B = Place × Bool} (λ (q : Place). (q, inductive_in M T q))) (loops_at M mode ts H p.body (enter d)))

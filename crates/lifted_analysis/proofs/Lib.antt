@@ -1,7 +1,10 @@
+pub mod IdleLemmas
+pub mod PassedLemmas
 pub mod StateLemmas
 pub mod FamilyLemmas
-pub mod PassedLemmas
+pub mod FinalsLemmas
 pub mod WalkLemmas
+pub mod WaysLemmas
 pub mod RuleLemmas
 pub mod LoopLemmas
 pub mod AfterLemmas
@@ -13,6 +16,5 @@ pub mod FoundLemmas
 pub mod ConditionLemmas
 pub mod Answered
 pub mod CanonLaws
-pub mod FinalsLemmas
 pub mod PassAnswered
 pub mod LineIndexLemmas

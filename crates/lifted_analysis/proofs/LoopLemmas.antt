@@ -1,7 +1,39 @@
--- The rounds of a loop at one vector.
-use Rattle.std.proofs.Common.{◌≡◌, ℕ, suc, ◌+◌, ◌-◌, ◌<◌, Bool, true, false, if◌then◌else◌, nat_lt, ℤ, List, refl, ap, sym, ◌∙◌, arith}
+-- The parts and the rounds of a loop at one vector.
+use Rattle.std.proofs.Common.{◌≡◌, ℕ, suc, ◌+◌, ◌-◌, ◌<◌, ◌≤◌, Bool, true, false, if◌then◌else◌, nat_lt, ℤ, List, refl, ap, sym, ◌∙◌, arith}
+use Rattle.c_tree.specs.declared.tree.Mode.{Mode}
+use Rattle.c_tree.specs.Fit.{IsCodeOf}
+use Rattle.c_tree.specs.Project.{projected}
+use Rattle.c_tree.specs.Tree.{Whole}
 use Rattle.leaf_domain.specs.Leaves.{LeafValue, LeafMeaning}
 use Rattle.plain_analysis.specs.Loops.{round_by, rounds_of, taken_by, narrowing_of}
+use Rattle.plain_analysis.specs.Stated.{ArePartsOf, HasLoopsIn, HasLoopsOf}
+use Rattle.plain_analysis.specs.Statements.{Heads, LoopParts, TestFirst, TestLast, inside, body_of, passed, through_body, failing}
+use Rattle.plain_analysis.specs.Ways.{enter}
+use Rattle.plain_analysis.proofs.Sizes.{size_of, size_in}
+use Rattle.lifted_analysis.specs.Steps.{parts_at, failing_so}
+
+-- the body of a loop is no larger
+pub body_small : (l : LoopParts) → size_of (body_of l) ≤ size_in l
+body_small (TestFirst test step body) = omega arith
+body_small (TestLast body at test) = omega arith
+
+-- the body of a loop is over as many variables, and its loops are the program's
+pub body_fits : (n : ℕ) (l : LoopParts) → ArePartsOf n l → IsCodeOf n (body_of l)
+body_fits n (TestFirst test step body) h = h.2
+body_fits n (TestLast body at test) h = h.1
+
+pub body_loops : (p : Whole) (l : LoopParts) → HasLoopsIn p l → HasLoopsOf p (body_of l)
+body_loops p (TestFirst test step body) h = h.1
+body_loops p (TestLast body at test) h = h
+
+-- what its body makes of the head's leaf, and the leaf with which its test fails
+pub entered_is : (M : LeafMeaning) (mode : Mode) (H : Heads) (ts : List Bool) (l : LoopParts) (x : LeafValue) → passed M mode H (projected ts (body_of l)) (enter (inside M mode l x)) ≡ through_body M mode H (parts_at ts l) x
+entered_is M mode H ts (TestFirst test step body) x = refl
+entered_is M mode H ts (TestLast body at test) x = refl
+
+pub failing_is : (M : LeafMeaning) (mode : Mode) (H : Heads) (ts : List Bool) (l : LoopParts) (x : LeafValue) → failing_so M mode l x (through_body M mode H (parts_at ts l) x) ≡ failing M mode H (parts_at ts l) x
+failing_is M mode H ts (TestFirst test step body) x = refl
+failing_is M mode H ts (TestLast body at test) x = refl
 
 -- one round more
 pub rounds_go : (M : LeafMeaning) (ts : List ℤ) (delay : ℕ) (G : LeafValue → LeafValue) (n k : ℕ) (x w y z : LeafValue) → k < n → w ≡ G x → y ≡ round_by M ts (nat_lt k delay) x w

@@ -11,7 +11,7 @@ use Rattle.c_tree.specs.declared.tree.Mode.{Mode}
 use Rattle.c_tree.specs.Fit.{IsCodeOf}
 use Rattle.c_tree.specs.Places.{program_places}
 use Rattle.c_tree.specs.Project.{projected, projected_program, projected_start}
-use Rattle.c_tree.specs.Tree.{Code, Done, Assign, Input, Assert, If, While, Block, Skip, Cond, Whole}
+use Rattle.c_tree.specs.Tree.{Code, Done, Assign, Input, Assert, If, While, Do, Leave, Block, Skip, Cond, Whole}
 use Rattle.c_tree.specs.Whole.{IsProgram}
 use Rattle.c_tree.proofs.Starts.{length-start, ints-start}
 use Rattle.c_tree.proofs.Wholes.{IsPlain-projected, IsProgram-projected}
@@ -24,11 +24,11 @@ use Rattle.decision_tree.specs.View.{numbered, plain}
 use Rattle.leaf_domain.specs.Leaves.{LeafValue, LeafMeaning, LeafLaws, nothing_of}
 use Rattle.leaf_domain.specs.Soundness.{TransferAnswers, TransferHolds}
 use Rattle.leaf_domain.specs.Transfer.{assumed, assigned, forgotten}
-use Rattle.leaf_domain.proofs.Answered.{answers_then}
 use Rattle.plain_analysis.specs.Places.{at_by, alarm_by}
-use Rattle.plain_analysis.specs.Promises.{AreHeld, RunsForeseenBy}
-use Rattle.plain_analysis.specs.Statements.{Heads, passed, lap, head_by}
-use Rattle.plain_analysis.proofs.JoinLemmas.{join_answer}
+use Rattle.plain_analysis.specs.Promises.{IsHeld, AreHeld, RunsForeseenBy}
+use Rattle.plain_analysis.specs.Statements.{Heads, TestFirst, TestLast, passed, chosen, through_body, lap, head_by, behind_by}
+use Rattle.plain_analysis.specs.Ways.{Ways, onto, enter, leave_by, going_on}
+use Rattle.plain_analysis.proofs.Kept.{IsLeaf, AreLeaves, like, alike, enter_leaves, leave_kept}
 use Rattle.plain_analysis.proofs.Promised.{runs}
 use Rattle.tree_unify.specs.Formulas as formulas
 use Rattle.lifted_analysis.specs.declared.noted.Noted.{Noted}
@@ -49,7 +49,7 @@ use Rattle.lifted_analysis.specs.Turns.{Turn, turns_by, is_inductive, AreInducti
 use Rattle.lifted_analysis.proofs.Answered.{keys_are, leaf_findings, truth_findings, begins}
 use Rattle.tree_unify.proofs.FormulaTrees.{number_below}
 use Rattle.lifted_analysis.proofs.ConditionLemmas.{truths_same, tests_each, occurs_below}
-use Rattle.lifted_analysis.proofs.PassedLemmas.{AreFit, given_fit, passed_keeps, suits, within_count}
+use Rattle.lifted_analysis.proofs.PassedLemmas.{AreFit, KeepsIn, given_fit, assign_leaves, input_leaves, test_leaves, within_leaves, onward_leaf, lap_leaf, head_leaf, behind_leaves, passed_leaves, sides_leaves}
 
 -- ---- loops that are inductive
 
@@ -68,72 +68,87 @@ all_second : {X : Type 0} (P : X → Type 0) (xs ys : List X) → All P (xs ++ y
 all_second P xs ys h = subst (All P) (drop_at xs ys (length xs) refl) (All-drop P (length xs) (xs ++ ys) h)
 
 module _ (M : LeafMeaning) (laws : LeafLaws M) (mode : Mode) (A : TransferAnswers M mode) (n : ℕ) (H : Heads) (fit : AreFit M mode n H) where
-  -- heads of inductive loops hold what enters them and what comes from their bodies and their steps
-  pub inductive_heads_hold : (c : Code) → IsCodeOf n c → (x : LeafValue) → M.valid x → x.variables ≡ n → AreInductive M (turns_by M mode H c x) → AreHeld M mode H c x
-  inductive_heads_hold Done over x h c i = tt
-  inductive_heads_hold (Assign place y e rest) over x h c i =
-      let a = A.assigned_answers y e x (within_count M laws mode A n H fit y x c over.0) (suits M laws mode A n H fit e x h c over.1) in
-      inductive_heads_hold rest over.2 (assigned M mode y e x) a.valid (a.same ∙ c) i
-  inductive_heads_hold (Input place y rest) over x h c i =
-      let a = A.forgotten_answers y x (within_count M laws mode A n H fit y x c over.0) h in
-      inductive_heads_hold rest over.1 (forgotten M y x) a.valid (a.same ∙ c) i
-  inductive_heads_hold (Assert place e rest) over x h c i =
-      let a = A.assumed_answers e true x (suits M laws mode A n H fit e x h c over.0) in
-      inductive_heads_hold rest over.1 (assumed M mode e true x) a.valid (a.same ∙ c) i
-  inductive_heads_hold (If place e p q rest) over x h c i =
-      let yes = assumed M mode e true x in
-      let no = assumed M mode e false x in
-      let t = A.assumed_answers e true x (suits M laws mode A n H fit e x h c over.0) in
-      let f = A.assumed_answers e false x (suits M laws mode A n H fit e x h c over.0) in
-      let a = answers_then x _ _ t (passed_keeps M laws mode A n H fit p over.1 yes t.valid (t.same ∙ c)) in
-      let b = answers_then x _ _ f (passed_keeps M laws mode A n H fit q over.2 no f.valid (f.same ∙ c)) in
-      let w = M.join (passed M mode H p yes) (passed M mode H q no) in
-      let j = join_answer M laws x (passed M mode H p yes) (passed M mode H q no) a b in
-      let ps = turns_by M mode H p yes in
-      let qs = turns_by M mode H q no in
-      let rs = turns_by M mode H rest w in
-      let behind = all_second (λ (t : Turn). is_inductive M t ≡ true) ps (qs ++ rs) i in (
-        inductive_heads_hold p over.1 yes t.valid (t.same ∙ c) (all_first (λ (t : Turn). is_inductive M t ≡ true) ps (qs ++ rs) i),
-        inductive_heads_hold q over.2 no f.valid (f.same ∙ c) (all_first (λ (t : Turn). is_inductive M t ≡ true) qs rs behind),
-        inductive_heads_hold rest over.3 w j.valid (j.same ∙ c) (all_second (λ (t : Turn). is_inductive M t ≡ true) qs rs behind),
+  abbrev Below : Turn → Type 0
+  Below t = is_inductive M t ≡ true
+
+  abbrev keeps : (c : Code) → IsCodeOf n c → (w : Ways) → AreLeaves M n w → AreLeaves M n (passed M mode H c w)
+  keeps = passed_leaves M laws mode A n H fit
+
+  -- an inductive head holds what enters its loop and what a lap makes of it
+  held : (x head again : LeafValue) (f : LeafValue → LeafValue) → again ≡ f head → IsLeaf M n x → IsLeaf M n head → IsLeaf M n again → (M.leq x head && M.leq again head) ≡ true → IsHeld M f x head
+  held x head again f e h i j b = record {
+    answers = like M laws n x head h i;
+    entered = λ store k. laws.leq_holds x head store (alike M laws n x head h i) (left_so (M.leq x head) (M.leq again head) b) k;
+    again = λ store k. laws.leq_holds again head store (alike M laws n again head j i) (right_so (M.leq x head) (M.leq again head) b) (subst (λ y. M.holds y store) (sym e) k);
+  }
+
+  -- heads of inductive loops hold what enters them and what laps make of them
+  pub inductive_heads_hold : (c : Code) → IsCodeOf n c → (w : Ways) → AreLeaves M n w → AreInductive M (turns_by M mode H c w) → AreHeld M mode H c w
+  inductive_heads_hold Done over w h i = tt
+  inductive_heads_hold (Assign place y e rest) over w h i =
+      inductive_heads_hold rest over.2 (onto w (assigned M mode y e w.behind)) (assign_leaves M laws mode A n H fit y e w h over.0 over.1) i
+  inductive_heads_hold (Input place y rest) over w h i =
+      inductive_heads_hold rest over.1 (onto w (forgotten M y w.behind)) (input_leaves M laws mode A n H fit y w h over.0) i
+  inductive_heads_hold (Assert place e rest) over w h i =
+      inductive_heads_hold rest over.1 (onto w (assumed M mode e true w.behind)) (test_leaves M laws mode A n H fit e true w w.behind h h.behind over.0) i
+  inductive_heads_hold (If place e p q rest) over w h i =
+      let u = onto w (assumed M mode e true w.behind) in
+      let j = test_leaves M laws mode A n H fit e true w w.behind h h.behind over.0 in
+      let a = passed M mode H p u in
+      let z = onto a (assumed M mode e false w.behind) in
+      let k = test_leaves M laws mode A n H fit e false a w.behind (keeps p over.1 u j) h.behind over.0 in
+      let r = chosen M mode H e p q w in
+      let ps = turns_by M mode H p u in
+      let qs = turns_by M mode H q z in
+      let rs = turns_by M mode H rest r in
+      let behind = all_second Below ps (qs ++ rs) i in (
+        inductive_heads_hold p over.1 u j (all_first Below ps (qs ++ rs) i),
+        inductive_heads_hold q over.2 z k (all_first Below qs rs behind),
+        inductive_heads_hold rest over.3 r (sides_leaves M laws mode A n H fit e p q over.0 over.1 over.2 w h) (all_second Below qs rs behind),
       )
-  inductive_heads_hold (While place e step body rest) over x h c i =
-      let head = head_by M mode H place e step body x in
-      let a = fit.answers place e step body x h c over.0 over.1 over.2 in
-      let yes = assumed M mode e true head in
-      let no = assumed M mode e false head in
-      let t = A.assumed_answers e true head (suits M laws mode A n H fit e head a.valid (a.same ∙ c) over.0) in
-      let u = A.assumed_answers e false head (suits M laws mode A n H fit e head a.valid (a.same ∙ c) over.0) in
-      let b = passed_keeps M laws mode A n H fit body over.2 yes t.valid (t.same ∙ (a.same ∙ c)) in
-      let behind = passed M mode H body yes in
-      let behind_count : behind.variables ≡ n = b.same ∙ (t.same ∙ (a.same ∙ c)) in
-      let d = passed_keeps M laws mode A n H fit step over.1 behind b.valid behind_count in
-      let again = lap M mode H step body yes in
-      let ss = turns_by M mode H step behind in
-      let bs = turns_by M mode H body yes in
-      let rs = turns_by M mode H rest no in
-      let turn : Turn = record { place = place; entered = x; head = head; again = again } in
-      let one : is_inductive M turn ≡ true = All-head (λ (t : Turn). is_inductive M t ≡ true) turn (ss ++ (bs ++ rs)) i in
-      let others = All-tail (λ (t : Turn). is_inductive M t ≡ true) turn (ss ++ (bs ++ rs)) i in
-      let later = all_second (λ (t : Turn). is_inductive M t ≡ true) ss (bs ++ rs) others in (
-        record {
-          answers = a;
-          entered = λ store k. laws.leq_holds x head store (record { first = h; second = a.valid; same = sym a.same }) (left_so (M.leq x head) (M.leq again head) one) k;
-          again = λ store k. laws.leq_holds again head store (record { first = d.valid; second = a.valid; same = d.same ∙ (b.same ∙ t.same) }) (right_so (M.leq x head) (M.leq again head) one) k;
-        },
-        inductive_heads_hold step over.1 behind b.valid behind_count (all_first (λ (t : Turn). is_inductive M t ≡ true) ss (bs ++ rs) others),
-        inductive_heads_hold body over.2 yes t.valid (t.same ∙ (a.same ∙ c)) (all_first (λ (t : Turn). is_inductive M t ≡ true) bs rs later),
-        inductive_heads_hold rest over.3 no u.valid (u.same ∙ (a.same ∙ c)) (all_second (λ (t : Turn). is_inductive M t ≡ true) bs rs later),
+  inductive_heads_hold (While place e step body rest) over w h i =
+      let l = TestFirst e step body in
+      let k : KeepsIn M laws mode A n H fit l = (over.0, keeps step over.1, keeps body over.2) in
+      let x = head_by M mode H place l w.behind in
+      let a = head_leaf M laws mode A n H fit place l (over.0, over.1, over.2, over.4) w.behind h.behind in
+      let y = going_on M (through_body M mode H l x) in
+      let u = enter (assumed M mode e true x) in
+      let r = behind_by M mode H l w x in
+      let turn : Turn = record { place = place; entered = w.behind; head = x; again = lap M mode H l x } in
+      let ss = turns_by M mode H step (enter y) in
+      let bs = turns_by M mode H body u in
+      let rs = turns_by M mode H rest r in
+      let others = All-tail Below turn (ss ++ (bs ++ rs)) i in
+      let later = all_second Below ss (bs ++ rs) others in (
+        held w.behind x (lap M mode H l x) (lap M mode H l) refl h.behind a (lap_leaf M laws mode A n H fit l k x a) (All-head Below turn (ss ++ (bs ++ rs)) i),
+        inductive_heads_hold step over.1 (enter y) (enter_leaves M laws n y (onward_leaf M laws mode A n H fit l k x a)) (all_first Below ss (bs ++ rs) others),
+        inductive_heads_hold body over.2 u (within_leaves M laws mode A n H fit e x a over.0) (all_first Below bs rs later),
+        inductive_heads_hold rest over.3 r (behind_leaves M laws mode A n H fit l k w x h a) (all_second Below bs rs later),
       )
-  inductive_heads_hold (Block place body rest) over x h c i =
-      let a = passed_keeps M laws mode A n H fit body over.0 x h c in
-      let bs = turns_by M mode H body x in
-      let rs = turns_by M mode H rest (passed M mode H body x) in (
-        inductive_heads_hold body over.0 x h c (all_first (λ (t : Turn). is_inductive M t ≡ true) bs rs i),
-        inductive_heads_hold rest over.1 (passed M mode H body x) a.valid (a.same ∙ c) (all_second (λ (t : Turn). is_inductive M t ≡ true) bs rs i),
+  inductive_heads_hold (Do place body at e rest) over w h i =
+      let l = TestLast body at e in
+      let k : KeepsIn M laws mode A n H fit l = (over.0, keeps body over.1) in
+      let x = head_by M mode H place l w.behind in
+      let a = head_leaf M laws mode A n H fit place l (over.0, over.1) w.behind h.behind in
+      let r = behind_by M mode H l w x in
+      let turn : Turn = record { place = place; entered = w.behind; head = x; again = lap M mode H l x } in
+      let bs = turns_by M mode H body (enter x) in
+      let rs = turns_by M mode H rest r in
+      let others = All-tail Below turn (bs ++ rs) i in (
+        held w.behind x (lap M mode H l x) (lap M mode H l) refl h.behind a (lap_leaf M laws mode A n H fit l k x a) (All-head Below turn (bs ++ rs) i),
+        inductive_heads_hold body over.1 (enter x) (enter_leaves M laws n x a) (all_first Below bs rs others),
+        inductive_heads_hold rest over.2 r (behind_leaves M laws mode A n H fit l k w x h a) (all_second Below bs rs others),
       )
-  inductive_heads_hold (Skip place rest) over x h c i = inductive_heads_hold rest over x h c i
-  inductive_heads_hold (Cond number p q rest) over x h c i = inductive_heads_hold rest over.2 x h c i
+  inductive_heads_hold (Leave place jump rest) over w h i = inductive_heads_hold rest over.1 (leave_by M mode jump w) (leave_kept M laws mode A n jump w h over.0).leaves i
+  inductive_heads_hold (Block place body rest) over w h i =
+      let a = passed M mode H body w in
+      let bs = turns_by M mode H body w in
+      let rs = turns_by M mode H rest a in (
+        inductive_heads_hold body over.0 w h (all_first Below bs rs i),
+        inductive_heads_hold rest over.1 a (keeps body over.0 w h) (all_second Below bs rs i),
+      )
+  inductive_heads_hold (Skip place rest) over w h i = inductive_heads_hold rest over w h i
+  inductive_heads_hold (Cond number p q rest) over w h i = inductive_heads_hold rest over.2 w h i
 
 -- ---- runs
 
@@ -148,7 +163,7 @@ pass_runs M laws mode A T p program cs pl lines bounds v inductive =
     let counts : d.variables ≡ length p.names = count (true_on v (formula pl)) in
     let fit = subst (λ m. AreFit M mode m (given_heads M lines v d)) counts (given_fit M laws mode lines v d is_valid (subst (λ m. All (λ (l : LoopLine). AreVariableBounds m l.bounds) lines) (sym counts) bounds)) in
     runs M mode (heads_at M p cs pl lines v) (variant_at p cs v) d well (record { body = IsPlain-projected ts p.body; declared = refl }) laws A T is_valid counts
-    (inductive_heads_hold M laws mode A (length p.names) (heads_at M p cs pl lines v) fit (variant_at p cs v).body well.names d is_valid counts inductive)
+    (inductive_heads_hold M laws mode A (length p.names) (heads_at M p cs pl lines v) fit (variant_at p cs v).body well.names (enter d) (enter_leaves M laws (length p.names) d (record { valid = is_valid; count = counts })) inductive)
   where
     valid : (b : Bool) → M.valid (if b then M.start (variant_at p cs v).start else nothing_of (length p.names))
     valid true =
@@ -195,7 +210,7 @@ module _ {L : Type 0} (value : L → LeafValue) (exact : (a b : L) → value a �
     stops_at v = h.stops v ∙ over_formulas (λ H ts d. map (λ (q : Place × Kind). (q, alarm_by M mode H (projected_program ts p) d q.0 q.1)) (by_kind (program_places p))) v
 
     loops_at : (v : List Bool) → map (loop_there v) loops.items ≡ map (λ (q : Place). (q, inductive_at M mode p cs pl lines q v)) (loop_places p.body)
-    loops_at v = at_loops v ∙ (h.turns v ∙ over_formulas (λ H ts d. map (λ (q : Place). (q, inductive_in M (turns_by M mode H (projected ts p.body) d) q)) (loop_places p.body)) v)
+    loops_at v = at_loops v ∙ (h.turns v ∙ over_formulas (λ H ts d. map (λ (q : Place). (q, inductive_in M (turns_by M mode H (projected ts p.body) (enter d)) q)) (loop_places p.body)) v)
 
     pub are_pass_findings : ArePassFindings value M family.options.now.mode p cs pl lines (record { places = f.places; alarms = f.alarms; loops = loops })
     are_pass_findings = record {

@@ -1,125 +1,119 @@
 -- Passes over statements, whatever loops have at their heads.
-use Rattle.std.proofs.Common.{◌≡◌, ℕ, ◌≤◌, ◌<◌, ◌+◌, true, false, Bool, List, [], ◌∷◌, length, if◌then◌else◌, ◌&&◌, Option, Some, None, refl, ap, sym, subst, ◌∙◌, arith}
+use Rattle.std.proofs.Common.{◌≡◌, ℕ, ◌<◌, ◌+◌, true, false, Bool, List, [], ◌∷◌, length, if◌then◌else◌, ◌&&◌, Option, Some, None, refl, sym, subst, arith}
 use Rattle.std.specs.List.{All}
 use Rattle.std.proofs.lemmas.List.Elements.{All-head, All-tail}
 use Rattle.fam_outer.specs.declared.faults.Place.{Place}
 use Rattle.c_tree.specs.declared.tree.Mode.{Mode}
-use Rattle.c_tree.specs.Tree.{Term, Code, followed, Done, Assign, Input, Assert, If, While, Block, Skip, Cond}
+use Rattle.c_tree.specs.Tree.{Term, Code, Done, Assign, Input, Assert, If, While, Do, Leave, Block, Skip, Cond}
 use Rattle.c_tree.specs.Fit.{IsTermOf, IsCodeOf}
 use Rattle.cpp_conditions.specs.Propositions.{true_on}
 use Rattle.cpp_conditions.specs.View.{formula}
 use Rattle.leaf_domain.specs.declared.range.Range.{Range}
-use Rattle.leaf_domain.specs.Leaves.{LeafValue, LeafMeaning, LeafLaws, IsLeafLike, nothing_of}
+use Rattle.leaf_domain.specs.Leaves.{LeafValue, LeafMeaning, LeafLaws, IsLeafLike}
 use Rattle.leaf_domain.specs.Ranges.{IsInInt}
-use Rattle.leaf_domain.specs.Soundness.{Suits, TransferAnswers}
+use Rattle.leaf_domain.specs.Soundness.{TransferAnswers}
 use Rattle.leaf_domain.specs.Transfer.{assumed, assigned, forgotten}
 use Rattle.leaf_domain.proofs.Answered.{answers_self, answers_then}
 use Rattle.plain_analysis.specs.declared.options.Options.{Options}
-use Rattle.lifted_analysis.proofs.StateLemmas.{without_rounds}
 use Rattle.plain_analysis.specs.Places.{is_same_place}
-use Rattle.plain_analysis.specs.Statements.{Heads, passed, head_by, final_heads}
-use Rattle.plain_analysis.proofs.JoinLemmas.{join_answer}
-use Rattle.plain_analysis.proofs.Nothing.{after_nothing}
+use Rattle.plain_analysis.specs.Stated.{ArePartsOf}
+use Rattle.plain_analysis.specs.Statements.{Heads, LoopParts, TestFirst, TestLast, passed, chosen, through_body, lap, head_by, failing, behind_by, final_heads}
+use Rattle.plain_analysis.specs.Ways.{Ways, onto, enter, leave_by, going_on}
 use Rattle.plain_analysis.proofs.Recursion.{final_of_code}
+use Rattle.plain_analysis.proofs.Kept.{IsLeaf, AreLeaves, answered, join_leaf, onto_leaves, enter_leaves, going_on_leaf, loop_leaves, assumed_leaf, assigned_leaf, forgotten_leaf, leave_kept}
 use Rattle.lifted_analysis.specs.declared.lines.LoopLine.{LoopLine}
 use Rattle.lifted_analysis.specs.Lines.{set_from, bounded_by, given_at, given_heads, AreVariableBounds}
-use Rattle.lifted_analysis.specs.Rules.{no_heads}
-
--- ---- one list after another
-
-module _ (M : LeafMeaning) (mode : Mode) (H : Heads) where
-  pub passed-followed : (a b : Code) (v : LeafValue) → passed M mode H (followed a b) v ≡ passed M mode H b (passed M mode H a v)
-  passed-followed Done b v = refl
-  passed-followed (Assign place x e rest) b v = passed-followed rest b (assigned M mode x e v)
-  passed-followed (Input place x rest) b v = passed-followed rest b (forgotten M x v)
-  passed-followed (Assert place e rest) b v = passed-followed rest b (assumed M mode e true v)
-  passed-followed (If place e p q rest) b v =
-      passed-followed rest b (M.join (passed M mode H p (assumed M mode e true v)) (passed M mode H q (assumed M mode e false v)))
-  passed-followed (While place e step body rest) b v = passed-followed rest b (assumed M mode e false (head_by M mode H place e step body v))
-  passed-followed (Block place body rest) b v = passed-followed rest b (passed M mode H body v)
-  passed-followed (Skip place rest) b v = passed-followed rest b v
-  passed-followed (Cond number p q rest) b v = passed-followed rest b v
 
 -- ---- leaves of the kind
 
--- heads that are leaves of the kind over n variables, where their loops are entered with such leaves
+-- heads that are leaves of the kind over n variables, where their loops are over as many and are entered with such leaves
 pub record AreFit (M : LeafMeaning) (mode : Mode) (n : ℕ) (H : Heads) : Type 0 where
-  pub answers : (place : Place) (e : Term) (step body : Code) (x : LeafValue) → M.valid x → x.variables ≡ n → IsTermOf n e → IsCodeOf n step → IsCodeOf n body → IsLeafLike M x (head_by M mode H place e step body x)
+  pub answers : (place : Place) (l : LoopParts) (x : LeafValue) → IsLeaf M n x → ArePartsOf n l → IsLeaf M n (head_by M mode H place l x)
 
 module _ (M : LeafMeaning) (laws : LeafLaws M) (mode : Mode) (A : TransferAnswers M mode) (n : ℕ) (H : Heads) (fit : AreFit M mode n H) where
-  pub suits : (e : Term) (v : LeafValue) → M.valid v → v.variables ≡ n → IsTermOf n e → Suits M e v
-  suits e v h c t = record { valid = h; term = subst (λ m. IsTermOf m e) (sym c) t }
+  pub assign_leaves : (y : ℕ) (e : Term) (w : Ways) → AreLeaves M n w → y < n → IsTermOf n e → AreLeaves M n (onto w (assigned M mode y e w.behind))
+  assign_leaves y e w h l t = onto_leaves M laws n w (assigned M mode y e w.behind) h (assigned_leaf M laws mode A n y e w.behind h.behind l t)
 
-  pub within_count : (x : ℕ) (v : LeafValue) → v.variables ≡ n → x < n → x < v.variables
-  within_count x v c l = subst (λ m. x < m) (sym c) l
+  pub input_leaves : (y : ℕ) (w : Ways) → AreLeaves M n w → y < n → AreLeaves M n (onto w (forgotten M y w.behind))
+  input_leaves y w h l = onto_leaves M laws n w (forgotten M y w.behind) h (forgotten_leaf M laws mode A n y w.behind h.behind l)
 
-  pub passed_keeps : (c : Code) → IsCodeOf n c → (x : LeafValue) → M.valid x → x.variables ≡ n → IsLeafLike M x (passed M mode H c x)
-  passed_keeps Done over x h c = answers_self x h
-  passed_keeps (Assign place y e rest) over x h c =
-      let a = A.assigned_answers y e x (within_count y x c over.0) (suits e x h c over.1) in
-      answers_then x _ _ a (passed_keeps rest over.2 (assigned M mode y e x) a.valid (a.same ∙ c))
-  passed_keeps (Input place y rest) over x h c =
-      let a = A.forgotten_answers y x (within_count y x c over.0) h in
-      answers_then x _ _ a (passed_keeps rest over.1 (forgotten M y x) a.valid (a.same ∙ c))
-  passed_keeps (Assert place e rest) over x h c =
-      let a = A.assumed_answers e true x (suits e x h c over.0) in
-      answers_then x _ _ a (passed_keeps rest over.1 (assumed M mode e true x) a.valid (a.same ∙ c))
-  passed_keeps (If place e p q rest) over x h c =
-      let t = A.assumed_answers e true x (suits e x h c over.0) in
-      let f = A.assumed_answers e false x (suits e x h c over.0) in
-      let a = answers_then x _ _ t (passed_keeps p over.1 (assumed M mode e true x) t.valid (t.same ∙ c)) in
-      let b = answers_then x _ _ f (passed_keeps q over.2 (assumed M mode e false x) f.valid (f.same ∙ c)) in
-      let j = join_answer M laws x (passed M mode H p (assumed M mode e true x)) (passed M mode H q (assumed M mode e false x)) a b in
-      answers_then x _ _ j (passed_keeps rest over.3 (M.join (passed M mode H p (assumed M mode e true x)) (passed M mode H q (assumed M mode e false x))) j.valid (j.same ∙ c))
-  passed_keeps (While place e step body rest) over x h c =
-      let y = head_by M mode H place e step body x in
-      let i = fit.answers place e step body x h c over.0 over.1 over.2 in
-      let v = answers_then x y _ i (A.assumed_answers e false y (suits e y i.valid (i.same ∙ c) over.0)) in
-      answers_then x _ _ v (passed_keeps rest over.3 (assumed M mode e false y) v.valid (v.same ∙ c))
-  passed_keeps (Block place body rest) over x h c =
-      let a = passed_keeps body over.0 x h c in
-      answers_then x _ _ a (passed_keeps rest over.1 (passed M mode H body x) a.valid (a.same ∙ c))
-  passed_keeps (Skip place rest) over x h c = passed_keeps rest over x h c
-  passed_keeps (Cond number p q rest) over x h c = passed_keeps rest over.2 x h c
+  pub test_leaves : (e : Term) (want : Bool) (w : Ways) (x : LeafValue) → AreLeaves M n w → IsLeaf M n x → IsTermOf n e → AreLeaves M n (onto w (assumed M mode e want x))
+  test_leaves e want w x h i t = onto_leaves M laws n w (assumed M mode e want x) h (assumed_leaf M laws mode A n e want x i t)
 
--- ---- statements that are not kept
+  pub within_leaves : (e : Term) (x : LeafValue) → IsLeaf M n x → IsTermOf n e → AreLeaves M n (enter (assumed M mode e true x))
+  within_leaves e x h t = enter_leaves M laws n (assumed M mode e true x) (assumed_leaf M laws mode A n e true x h t)
 
-module _ (M : LeafMeaning) (laws : LeafLaws M) (mode : Mode) (A : TransferAnswers M mode) (n : ℕ) (few : n ≤ 48) where
-  abbrev o : Options
-  o = without_rounds mode
+  abbrev Leaves : Code → Type 0
+  Leaves c = (w : Ways) → AreLeaves M n w → AreLeaves M n (passed M mode H c w)
 
-  pub assigned_nothing : (place : Place) (x : ℕ) (e : Term) → assigned M mode x e (nothing_of n) ≡ nothing_of n
-  assigned_nothing place x e = after_nothing M laws o A n few (Assign place x e Done)
+  -- the lists of a loop keep such leaves, and its test is over them
+  abbrev pub KeepsIn : LoopParts → Type 0
+  KeepsIn (TestFirst test step body) = IsTermOf n test × Leaves step × Leaves body
+  KeepsIn (TestLast body at test) = IsTermOf n test × Leaves body
 
-  pub forgotten_nothing : (place : Place) (x : ℕ) → forgotten M x (nothing_of n) ≡ nothing_of n
-  forgotten_nothing place x = after_nothing M laws o A n few (Input place x Done)
+  pub through_leaves : (l : LoopParts) → KeepsIn l → (x : LeafValue) → IsLeaf M n x → AreLeaves M n (through_body M mode H l x)
+  through_leaves (TestFirst test step body) k x h = k.2 (enter (assumed M mode test true x)) (within_leaves test x h k.0)
+  through_leaves (TestLast body at test) k x h = k.1 (enter x) (enter_leaves M laws n x h)
 
-  pub assumed_nothing : (e : Term) (want : Bool) → assumed M mode e want (nothing_of n) ≡ nothing_of n
-  assumed_nothing e want = A.assumed_of_nothing e want (nothing_of n) refl
+  pub onward_leaf : (l : LoopParts) → KeepsIn l → (x : LeafValue) → IsLeaf M n x → IsLeaf M n (going_on M (through_body M mode H l x))
+  onward_leaf l k x h = going_on_leaf M laws n (through_body M mode H l x) (through_leaves l k x h)
 
-  pub joined_nothing : (a b : LeafValue) → a ≡ nothing_of n → b ≡ nothing_of n → M.join a b ≡ nothing_of n
-  joined_nothing a b e f = ap (λ v. M.join v b) e ∙ (ap (M.join (nothing_of n)) f ∙ laws.join_nothing (nothing_of n))
+  pub lap_leaf : (l : LoopParts) → KeepsIn l → (x : LeafValue) → IsLeaf M n x → IsLeaf M n (lap M mode H l x)
+  lap_leaf (TestFirst test step body) k x h =
+      let y = going_on M (through_body M mode H (TestFirst test step body) x) in
+      (k.1 (enter y) (enter_leaves M laws n y (onward_leaf (TestFirst test step body) k x h))).behind
+  lap_leaf (TestLast body at test) k x h =
+      assumed_leaf M laws mode A n test true (going_on M (through_body M mode H (TestLast body at test) x)) (onward_leaf (TestLast body at test) k x h) k.0
 
-  pub passed_nothing : (c : Code) → passed M mode no_heads c (nothing_of n) ≡ nothing_of n
-  passed_nothing Done = refl
-  passed_nothing (Assign place x e rest) = ap (passed M mode no_heads rest) (assigned_nothing place x e) ∙ passed_nothing rest
-  passed_nothing (Input place x rest) = ap (passed M mode no_heads rest) (forgotten_nothing place x) ∙ passed_nothing rest
-  passed_nothing (Assert place e rest) = ap (passed M mode no_heads rest) (assumed_nothing e true) ∙ passed_nothing rest
-  passed_nothing (If place e p q rest) =
-      ap (passed M mode no_heads rest) (joined_nothing (passed M mode no_heads p (assumed M mode e true (nothing_of n))) (passed M mode no_heads q (assumed M mode e false (nothing_of n)))
-      (ap (passed M mode no_heads p) (assumed_nothing e true) ∙ passed_nothing p) (ap (passed M mode no_heads q) (assumed_nothing e false) ∙ passed_nothing q))
-      ∙ passed_nothing rest
-  passed_nothing (While place e step body rest) = ap (passed M mode no_heads rest) (assumed_nothing e false) ∙ passed_nothing rest
-  passed_nothing (Block place body rest) = ap (passed M mode no_heads rest) (passed_nothing body) ∙ passed_nothing rest
-  passed_nothing (Skip place rest) = passed_nothing rest
-  passed_nothing (Cond number p q rest) = passed_nothing rest
+  failing_leaf : (l : LoopParts) → KeepsIn l → (x : LeafValue) → IsLeaf M n x → IsLeaf M n (failing M mode H l x)
+  failing_leaf (TestFirst test step body) k x h = assumed_leaf M laws mode A n test false x h k.0
+  failing_leaf (TestLast body at test) k x h =
+      assumed_leaf M laws mode A n test false (going_on M (through_body M mode H (TestLast body at test) x)) (onward_leaf (TestLast body at test) k x h) k.0
+
+  pub head_leaf : (place : Place) (l : LoopParts) → ArePartsOf n l → (x : LeafValue) → IsLeaf M n x → IsLeaf M n (head_by M mode H place l x)
+  head_leaf place l p x h = fit.answers place l x h p
+
+  pub behind_leaves : (l : LoopParts) → KeepsIn l → (w : Ways) (x : LeafValue) → AreLeaves M n w → IsLeaf M n x → AreLeaves M n (behind_by M mode H l w x)
+  behind_leaves l k w x h i = loop_leaves M laws n w (through_body M mode H l x) (failing M mode H l x) h (through_leaves l k x i) (failing_leaf l k x i)
+
+  chosen_leaves : (e : Term) (p q : Code) → IsTermOf n e → Leaves p → Leaves q → (w : Ways) → AreLeaves M n w → AreLeaves M n (chosen M mode H e p q w)
+  chosen_leaves e p q t k l w h =
+      let a = passed M mode H p (onto w (assumed M mode e true w.behind)) in
+      let i = k (onto w (assumed M mode e true w.behind)) (test_leaves e true w w.behind h h.behind t) in
+      let b = passed M mode H q (onto a (assumed M mode e false w.behind)) in
+      let j = l (onto a (assumed M mode e false w.behind)) (test_leaves e false a w.behind i h.behind t) in
+      onto_leaves M laws n b (M.join a.behind b.behind) j (join_leaf M laws n a.behind b.behind i.behind j.behind)
+
+  pub passed_leaves : (c : Code) → IsCodeOf n c → (w : Ways) → AreLeaves M n w → AreLeaves M n (passed M mode H c w)
+  passed_leaves Done over w h = h
+  passed_leaves (Assign place y e rest) over w h = passed_leaves rest over.2 (onto w (assigned M mode y e w.behind)) (assign_leaves y e w h over.0 over.1)
+  passed_leaves (Input place y rest) over w h = passed_leaves rest over.1 (onto w (forgotten M y w.behind)) (input_leaves y w h over.0)
+  passed_leaves (Assert place e rest) over w h = passed_leaves rest over.1 (onto w (assumed M mode e true w.behind)) (test_leaves e true w w.behind h h.behind over.0)
+  passed_leaves (If place e p q rest) over w h =
+      passed_leaves rest over.3 (chosen M mode H e p q w) (chosen_leaves e p q over.0 (passed_leaves p over.1) (passed_leaves q over.2) w h)
+  passed_leaves (While place e step body rest) over w h =
+      let l = TestFirst e step body in
+      let k : KeepsIn l = (over.0, passed_leaves step over.1, passed_leaves body over.2) in
+      let x = head_by M mode H place l w.behind in
+      passed_leaves rest over.3 (behind_by M mode H l w x) (behind_leaves l k w x h (head_leaf place l (over.0, over.1, over.2, over.4) w.behind h.behind))
+  passed_leaves (Do place body at e rest) over w h =
+      let l = TestLast body at e in
+      let k : KeepsIn l = (over.0, passed_leaves body over.1) in
+      let x = head_by M mode H place l w.behind in
+      passed_leaves rest over.2 (behind_by M mode H l w x) (behind_leaves l k w x h (head_leaf place l (over.0, over.1) w.behind h.behind))
+  passed_leaves (Leave place jump rest) over w h = passed_leaves rest over.1 (leave_by M mode jump w) (leave_kept M laws mode A n jump w h over.0).leaves
+  passed_leaves (Block place body rest) over w h = passed_leaves rest over.1 (passed M mode H body w) (passed_leaves body over.0 w h)
+  passed_leaves (Skip place rest) over w h = passed_leaves rest over w h
+  passed_leaves (Cond number p q rest) over w h = passed_leaves rest over.2 w h
+
+  pub sides_leaves : (e : Term) (p q : Code) → IsTermOf n e → IsCodeOf n p → IsCodeOf n q → (w : Ways) → AreLeaves M n w → AreLeaves M n (chosen M mode H e p q w)
+  sides_leaves e p q t i j = chosen_leaves e p q t (passed_leaves p i) (passed_leaves q j)
 
 -- ---- final leaves, and what lines give
 
 pub final_fit : (M : LeafMeaning) → LeafLaws M → (o : Options) → TransferAnswers M o.mode → (n : ℕ) → AreFit M o.mode n (final_heads M o)
 final_fit M laws o A n = record {
-  answers = λ place e step body x h c t j k.
-      final_of_code M laws o A e step body x h (subst (λ m. IsTermOf m e) (sym c) t) (subst (λ m. IsCodeOf m step) (sym c) j) (subst (λ m. IsCodeOf m body) (sym c) k);
+  answers = λ place l x h p. answered M laws n x _ h (final_of_code M laws o A l x h.valid (subst (λ m. ArePartsOf m l) (sym h.count) p));
 }
 
 module _ (M : LeafMeaning) (laws : LeafLaws M) where
@@ -146,6 +140,4 @@ module _ (M : LeafMeaning) (laws : LeafLaws M) where
       (given_answers ls v d q h (All-tail (λ (l : LoopLine). AreVariableBounds d.variables l.bounds) l ls i))
 
   pub given_fit : (mode : Mode) (lines : List LoopLine) (v : List Bool) (d : LeafValue) → M.valid d → All (λ (l : LoopLine). AreVariableBounds d.variables l.bounds) lines → AreFit M mode d.variables (given_heads M lines v d)
-  given_fit mode lines v d h i = record {
-    answers = λ place e step body x g c t j k. let a = given_answers lines v d place h i in record { valid = a.valid; same = a.same ∙ sym c };
-  }
+  given_fit mode lines v d h i = record { answers = λ place l x g k. let a = given_answers lines v d place h i in record { valid = a.valid; count = a.same } }

@@ -56,7 +56,7 @@ module _ (family : FamilyContext) where
   pub tree_as : {A : Type 0} (f g : List Bool → A) (t : Tree A) → ((v : List Bool) → f v ≡ g v) → IsTreeAt family f t → IsTreeAt family g t
   tree_as f g t e h = record { tree = h.tree; tests = h.tests; at_each = λ v. h.at_each v ∙ e v }
 
-  no_test : {A : Type 0} (t : Plain A) (x : A) (k : ℕ) → t ≡ leaf x → HasTest k t → ⊥
+  pub no_test : {A : Type 0} (t : Plain A) (x : A) (k : ℕ) → t ≡ leaf x → HasTest k t → ⊥
   no_test t x k e h = subst (HasTest k) e h
 
   pub leaf_tree : {A : Type 0} (forest : List (Plain A)) (t : Tree A) (x : A) → plain t ≡ leaf x → IsTreeIn 0 320 forest (numbered t) → IsTreeAt family (λ v. x) t

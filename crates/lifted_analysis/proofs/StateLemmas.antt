@@ -1,7 +1,6 @@
 -- States that are made leaf by leaf.
 use Rattle.std.proofs.Common.{◌≡◌, ◌≤◌, ◌+◌, ℕ, List, [], ◌∷◌, Option, Some, None, Bool, ap, sym, ◌∙◌, inl, inr, Result, Ok, Err, IfOk, refl, subst, true, false, if◌then◌else◌}
 use Rattle.c_tree.specs.declared.tree.Mode.{Mode}
-use Rattle.c_tree.specs.Tree.{Done, Assign, Input}
 use Rattle.c_tree.specs.View.{term}
 use Rattle.decision_tree.specs.declared.tree.Tree.{Tree}
 use Rattle.decision_tree.specs.Plain.{Plain, leaf_of}
@@ -12,8 +11,7 @@ use Rattle.decision_tree.proofs.Numbers.{tree_stays, numbered_tree, keeps_same, 
 use Rattle.decision_tree.proofs.Reached.{has_leaf_of}
 use Rattle.leaf_domain.specs.Leaves.{LeafValue, LeafMeaning, LeafLaws, nothing_of, is_nothing_of}
 use Rattle.leaf_domain.specs.Soundness.{TransferAnswers}
-use Rattle.plain_analysis.specs.declared.options.Options.{Options}
-use Rattle.plain_analysis.proofs.Nothing.{nothing_value, after_stays}
+use Rattle.plain_analysis.proofs.Nothing.{nothing_value}
 use Rattle.tree_unify.specs.Leafwise.{IsMapped, IsUnified, LeavesComeFrom, LeavesComeFromBoth, TestsAreOf, TestsAreOfEither}
 use Rattle.lifted_analysis.specs.declared.family_context.FamilyContext.{FamilyContext}
 use Rattle.lifted_analysis.specs.declared.operations.Combination.TheVariants.{Join}
@@ -23,6 +21,7 @@ use Rattle.leaf_domain.specs.declared.range.Range.{Range}
 use Rattle.lifted_analysis.specs.Lines.{set_from, bounded_by}
 use Rattle.lifted_analysis.specs.Steps.{stepped_by, kept_by, combined_by}
 use Rattle.lifted_analysis.specs.States.{IsState, IsSized, IsLifted, IsJoint, IsTruth}
+use Rattle.lifted_analysis.proofs.IdleLemmas.{assigned_nothing, forgotten_nothing, assumed_nothing, valued_nothing}
 
 -- what holds at Ok
 pub if_ok_by : {A E : Type 0} (r : Result A E) (P Q : A → Type 0) → ((x : A) → P x → Q x) → IfOk r P → IfOk r Q
@@ -42,17 +41,17 @@ bounded_stays : (M : LeafMeaning) → LeafLaws M → (n : ℕ) (b : Option (List
 bounded_stays M laws n None = refl
 bounded_stays M laws n (Some rs) = set_stays M laws n 0 rs
 
--- an analysis without rounds of joining and narrowing, and without thresholds
-abbrev pub without_rounds : Mode → Options
-without_rounds mode = record { delay = 0; narrow = 0; thresholds = []; mode = mode }
-
 -- a step of Nothing
 pub stepped_stays : (M : LeafMeaning) → LeafLaws M → (mode : Mode) → TransferAnswers M mode → (x : LeafValue) → x.variables ≤ 48 → is_nothing_of x ≡ true → (s : Step) → stepped_by M mode s x ≡ x
-stepped_stays M laws mode answers x few is (step.Assign y e) = after_stays M laws (without_rounds mode) answers x few is (Assign (record { line = 0; column = 0 }) y (term e.now) Done)
-stepped_stays M laws mode answers x few is (step.Forget y) = after_stays M laws (without_rounds mode) answers x few is (Input (record { line = 0; column = 0 }) y Done)
-stepped_stays M laws mode answers x few is (step.Assume e want) = answers.assumed_of_nothing (term e.now) want x is
-stepped_stays M laws mode answers x few is (step.Bound b) =
-    let e : x ≡ nothing_of x.variables = nothing_value x x.variables is refl in ap (bounded_by M b.now) e ∙ (bounded_stays M laws x.variables b.now ∙ sym e)
+stepped_stays M laws mode answers x few is s =
+    let e : x ≡ nothing_of x.variables = nothing_value x x.variables is refl in ap (stepped_by M mode s) e ∙ (stays s ∙ sym e)
+  where
+    stays : (s : Step) → stepped_by M mode s (nothing_of x.variables) ≡ nothing_of x.variables
+    stays (step.Assign y e) = assigned_nothing M laws mode answers x.variables few y (term e.now)
+    stays (step.Forget y) = forgotten_nothing M laws mode answers x.variables few y
+    stays (step.Assume e want) = assumed_nothing M laws mode answers x.variables few (term e.now) want
+    stays (step.Evaluate e) = valued_nothing M laws mode answers x.variables few (term e.now)
+    stays (step.Bound b) = bounded_stays M laws x.variables b.now
 
 -- a leaf that is kept
 pub kept_is : (want b : Bool) (x : LeafValue) → b ≡ want → x ≡ kept_by want b x

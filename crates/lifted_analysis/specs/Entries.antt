@@ -1,77 +1,103 @@
 -- The statements of a family, and the leaves with which they are entered.
-use Rattle.std.specs.Prelude.{◌≡◌, ℕ, Bool, true, false, not, List, [], ◌∷◌, ◌++◌, map, if◌then◌else◌, slice_index_or, Option, Some, None}
+use Rattle.std.specs.Prelude.{◌≡◌, ℕ, Bool, true, false, not, ◌&&◌, List, [], ◌∷◌, ◌++◌, map, if◌then◌else◌, slice_index_or, Option, Some, None}
 use Rattle.std.specs.List.{All}
 use Rattle.fam_outer.specs.declared.faults.Place.{Place}
 use Rattle.c_tree.specs.declared.tree.Kind.{Kind}
 use Rattle.c_tree.specs.declared.tree.Kind.TheVariants.{Overflow, ZeroDivisor, Assertion}
 use Rattle.c_tree.specs.declared.tree.Mode.{Mode}
-use Rattle.c_tree.specs.Tree.{Term, Code, Done, Assign, Input, Assert, If, While, Block, Skip, Cond}
+use Rattle.c_tree.specs.Tree.{Term, Code, Done, Assign, Input, Assert, If, While, Do, Leave, Block, Skip, Cond}
 use Rattle.c_tree.specs.Project.{projected}
+use Rattle.decision_tree.specs.declared.tree.Tree.{Tree}
 use Rattle.decision_tree.specs.Listed.{IsNumberedTree}
 use Rattle.decision_tree.specs.Numbered.{Numbered, erase}
 use Rattle.decision_tree.specs.Plain.{Plain, leaf_of, HasTest}
 use Rattle.decision_tree.specs.View.{numbered, plain}
 use Rattle.leaf_domain.specs.Leaves.{LeafValue, LeafMeaning}
 use Rattle.leaf_domain.specs.Transfer.{assumed, assigned, forgotten}
-use Rattle.leaf_domain.specs.Stops.{may_at}
-use Rattle.plain_analysis.specs.Statements.{Heads, passed, lap, head_by}
+use Rattle.leaf_domain.specs.Stops.{is_of_value, may_term, may_at}
+use Rattle.plain_analysis.specs.Statements.{Heads, LoopParts, TestFirst, TestLast, passed, chosen, through_body, lap, head_by, behind_by}
+use Rattle.plain_analysis.specs.declared.ways.Ways as rust
+use Rattle.plain_analysis.specs.Ways.{Ways, onto, enter, leave_by, going_on}
 use Rattle.lifted_analysis.specs.declared.noted.Noted.{Noted}
 use Rattle.lifted_analysis.specs.declared.noted.TurnTree.{TurnTree}
 use Rattle.lifted_analysis.specs.declared.family_context.FamilyContext.{FamilyContext}
 use Rattle.lifted_analysis.specs.declared.findings.PlaceTree.{PlaceTree}
 use Rattle.lifted_analysis.specs.declared.findings.AlarmTree.{AlarmTree}
-use Rattle.lifted_analysis.specs.Rules.{heads_where, passed_with, head_with}
-use Rattle.lifted_analysis.specs.States.{IsTest, IsSized, truths_in}
-use Rattle.lifted_analysis.specs.Steps.{kept_by}
+use Rattle.lifted_analysis.specs.Rules.{heads_where, head_with}
+use Rattle.lifted_analysis.specs.States.{IsTest, IsSized, truths_in, ways_at}
+use Rattle.lifted_analysis.specs.Steps.{kept_by, parts_at}
 use Rattle.lifted_analysis.specs.Turns.{Turn}
 
--- a statement, alone, the leaf at its place, and for a loop the leaf with which it is entered and that after its body and step
+-- a statement, alone, the leaf at its place, and for a loop the leaf with which it is entered and what a lap makes of its head's
 pub record Visit : Type 0 where
   pub place : Place
   pub statement : Code
   pub leaf : LeafValue
   pub turn : Option (LeafValue × LeafValue)
 
--- a loop of a family's list
-abbrev pub loop_visit : LeafMeaning → Mode → List Bool → Heads → Place → Code → Term → Code → Code → LeafValue → Visit
-loop_visit M mode ts H place s e step body x =
-    let y = head_by M mode H place e (projected ts step) (projected ts body) x in
-    record {
-      place = place;
-      statement = s;
-      leaf = y;
-      turn = Some (x, lap M mode H (projected ts step) (projected ts body) (assumed M mode e true y));
-    }
+-- a statement that is no loop
+abbrev pub plain_visit : Place → Code → LeafValue → Visit
+plain_visit place s x = record { place = place; statement = s; leaf = x; turn = None }
 
--- all statements of a family's list that is entered with x, in the order of the text, where the conditions have these truths
--- and loops these heads; a statement that is not kept there has Nothing
-abbrev pub visits_at : LeafMeaning → Mode → List Bool → Heads → Code → LeafValue → List Visit
-visits_at M mode ts H Done x = []
-visits_at M mode ts H (Assign place y e rest) x =
-    record { place = place; statement = Assign place y e Done; leaf = x; turn = None } ∷ visits_at M mode ts H rest (assigned M mode y e x)
-visits_at M mode ts H (Input place y rest) x =
-    record { place = place; statement = Input place y Done; leaf = x; turn = None } ∷ visits_at M mode ts H rest (forgotten M y x)
-visits_at M mode ts H (Assert place e rest) x =
-    record { place = place; statement = Assert place e Done; leaf = x; turn = None } ∷ visits_at M mode ts H rest (assumed M mode e true x)
-visits_at M mode ts H (If place e p q rest) x =
-    record { place = place; statement = If place e p q Done; leaf = x; turn = None }
-    ∷ (visits_at M mode ts H p (assumed M mode e true x)
-    ++ (visits_at M mode ts H q (assumed M mode e false x)
-    ++ visits_at M mode ts H rest (M.join (passed M mode H (projected ts p) (assumed M mode e true x)) (passed M mode H (projected ts q) (assumed M mode e false x)))))
-visits_at M mode ts H (While place e step body rest) x =
-    let y = head_by M mode H place e (projected ts step) (projected ts body) x in
-    loop_visit M mode ts H place (While place e step body Done) e step body x
-    ∷ (visits_at M mode ts H step (passed M mode H (projected ts body) (assumed M mode e true y))
-    ++ (visits_at M mode ts H body (assumed M mode e true y)
-    ++ visits_at M mode ts H rest (assumed M mode e false y)))
-visits_at M mode ts H (Block place body rest) x =
-    record { place = place; statement = Block place body Done; leaf = x; turn = None }
-    ∷ (visits_at M mode ts H body x ++ visits_at M mode ts H rest (passed M mode H (projected ts body) x))
-visits_at M mode ts H (Skip place rest) x = record { place = place; statement = Skip place Done; leaf = x; turn = None } ∷ visits_at M mode ts H rest x
-visits_at M mode ts H (Cond number p q rest) x =
-    visits_at M mode ts (heads_where (slice_index_or ts number false) H) p (kept_by true (slice_index_or ts number false) x)
-    ++ (visits_at M mode ts (heads_where (not (slice_index_or ts number false)) H) q (kept_by false (slice_index_or ts number false) x)
-    ++ visits_at M mode ts H rest (passed M mode H (if slice_index_or ts number false then projected ts p else projected ts q) x))
+-- whether the test of a loop, where it stands last, may stop with the kind
+abbrev pub test_may : LeafMeaning → Mode → Kind → Term → LeafValue → Bool
+test_may M mode kind e x = is_of_value kind && may_term M mode kind e x
+
+-- a loop of a family's list that is entered with x
+abbrev pub loop_visit : LeafMeaning → Mode → List Bool → Heads → Place → Code → LoopParts → LeafValue → Visit
+loop_visit M mode ts H place s l x =
+    let y = head_by M mode H place (parts_at ts l) x in
+    record { place = place; statement = s; leaf = y; turn = Some (x, lap M mode H (parts_at ts l) y) }
+
+-- what the body of a loop of a family makes of the head's leaf
+abbrev pub body_at : LeafMeaning → Mode → List Bool → Heads → LoopParts → LeafValue → Ways
+body_at M mode ts H l y = through_body M mode H (parts_at ts l) y
+
+-- the lists of a section of groups where its condition has this truth: each with its own heads, and Nothing where it is not kept
+abbrev pub first_group : LeafMeaning → Mode → List Bool → Heads → Bool → Code → Ways → Ways
+first_group M mode ts H b p w = passed M mode (heads_where b H) (projected ts p) (onto w (kept_by true b w.behind))
+
+-- all statements of a family's list, in the order of the text, where the conditions have these truths and loops these heads; a
+-- statement that is not kept there has Nothing
+abbrev pub visits_at : LeafMeaning → Mode → List Bool → Heads → Code → Ways → List Visit
+visits_at M mode ts H Done w = []
+visits_at M mode ts H (Assign place y e rest) w =
+    plain_visit place (Assign place y e Done) w.behind ∷ visits_at M mode ts H rest (onto w (assigned M mode y e w.behind))
+visits_at M mode ts H (Input place y rest) w =
+    plain_visit place (Input place y Done) w.behind ∷ visits_at M mode ts H rest (onto w (forgotten M y w.behind))
+visits_at M mode ts H (Assert place e rest) w =
+    plain_visit place (Assert place e Done) w.behind ∷ visits_at M mode ts H rest (onto w (assumed M mode e true w.behind))
+visits_at M mode ts H (If place e p q rest) w =
+    let a = passed M mode H (projected ts p) (onto w (assumed M mode e true w.behind)) in
+    plain_visit place (If place e p q Done) w.behind
+    ∷ (visits_at M mode ts H p (onto w (assumed M mode e true w.behind))
+    ++ (visits_at M mode ts H q (onto a (assumed M mode e false w.behind))
+    ++ visits_at M mode ts H rest (chosen M mode H e (projected ts p) (projected ts q) w)))
+visits_at M mode ts H (While place e step body rest) w =
+    let l = TestFirst e step body in
+    let y = head_by M mode H place (parts_at ts l) w.behind in
+    loop_visit M mode ts H place (While place e step body Done) l w.behind
+    ∷ (visits_at M mode ts H step (enter (going_on M (body_at M mode ts H l y)))
+    ++ (visits_at M mode ts H body (enter (assumed M mode e true y))
+    ++ visits_at M mode ts H rest (behind_by M mode H (parts_at ts l) w y)))
+visits_at M mode ts H (Do place body at e rest) w =
+    let l = TestLast body at e in
+    let y = head_by M mode H place (parts_at ts l) w.behind in
+    loop_visit M mode ts H place (Do place body at e Done) l w.behind
+    ∷ (visits_at M mode ts H body (enter y)
+    ++ (plain_visit at (If at e Done Done Done) (going_on M (body_at M mode ts H l y))
+    ∷ visits_at M mode ts H rest (behind_by M mode H (parts_at ts l) w y)))
+visits_at M mode ts H (Leave place jump rest) w =
+    plain_visit place (Leave place jump Done) w.behind ∷ visits_at M mode ts H rest (leave_by M mode jump w)
+visits_at M mode ts H (Block place body rest) w =
+    plain_visit place (Block place body Done) w.behind
+    ∷ (visits_at M mode ts H body w ++ visits_at M mode ts H rest (passed M mode H (projected ts body) w))
+visits_at M mode ts H (Skip place rest) w = plain_visit place (Skip place Done) w.behind ∷ visits_at M mode ts H rest w
+visits_at M mode ts H (Cond number p q rest) w =
+    let b = slice_index_or ts number false in
+    visits_at M mode ts (heads_where b H) p (onto w (kept_by true b w.behind))
+    ++ (visits_at M mode ts (heads_where (not b) H) q (onto (first_group M mode ts H b p w) (kept_by false b w.behind))
+    ++ visits_at M mode ts H rest (passed M mode H (if b then projected ts p else projected ts q) w))
 
 -- the places of statements with their leaves
 abbrev pub leaves_in : List Visit → List (Place × LeafValue)
@@ -130,35 +156,51 @@ AreReduced {L} family ps = All (λ (p : PlaceTree L). IsReducedTree family (numb
 abbrev pub AreReducedStops : FamilyContext → List AlarmTree → Type 0
 AreReducedStops family stops = All (λ (a : AlarmTree). IsReducedTree family (numbered a.tree)) stops
 
--- the statements of a list that is entered with a tree, at each vector
-abbrev pub entered_with : {L : Type 0} → (L → LeafValue) → LeafMeaning → FamilyContext → (List Bool → Heads) → Code → Plain L → List Bool → List Visit
-entered_with value M family H c t v = visits_at M family.options.now.mode (truths_in family.choices.now v) (H v) c (value (leaf_of t v))
+-- the statements of a list behind what was passed, at each vector
+abbrev pub entered_with : {L : Type 0} → (L → LeafValue) → LeafMeaning → FamilyContext → (List Bool → Heads) → Code → rust.Ways (Tree L) → List Bool → List Visit
+entered_with value M family H c w v = visits_at M family.options.now.mode (truths_in family.choices.now v) (H v) c (ways_at value w v)
+
+-- those of two lists, one after the other, each with its own heads, of which the second is entered with what y has
+abbrev pub visits_both : LeafMeaning → Mode → List Bool → Heads → Heads → Code → Code → Ways → LeafValue → List Visit
+visits_both M mode ts H K p q w y = visits_at M mode ts H p w ++ visits_at M mode ts K q (onto (passed M mode H (projected ts p) w) y)
+
+abbrev pub entered_both : {L : Type 0} → (L → LeafValue) → LeafMeaning → FamilyContext → (List Bool → Heads) → (List Bool → Heads) → Code → Code → rust.Ways (Tree L) → Plain L → List Bool → List Visit
+entered_both value M family H K p q w y v =
+    visits_both M family.options.now.mode (truths_in family.choices.now v) (H v) (K v) p q (ways_at value w v) (value (leaf_of y v))
 
 -- those of the two sides of a test, and of the two lists of a section of groups
-abbrev pub entered_sides : {L : Type 0} → (L → LeafValue) → LeafMeaning → FamilyContext → (List Bool → Heads) → Term → Code → Code → Plain L → List Bool → List Visit
-entered_sides value M family H test p q t v =
-    visits_at M family.options.now.mode (truths_in family.choices.now v) (H v) p (assumed M family.options.now.mode test true (value (leaf_of t v)))
-    ++ visits_at M family.options.now.mode (truths_in family.choices.now v) (H v) q (assumed M family.options.now.mode test false (value (leaf_of t v)))
+abbrev pub entered_sides : {L : Type 0} → (L → LeafValue) → LeafMeaning → FamilyContext → (List Bool → Heads) → Term → Code → Code → rust.Ways (Tree L) → List Bool → List Visit
+entered_sides value M family H test p q ways v =
+    let mode = family.options.now.mode in
+    let w = ways_at value ways v in
+    visits_both M mode (truths_in family.choices.now v) (H v) (H v) p q (onto w (assumed M mode test true w.behind)) (assumed M mode test false w.behind)
 
-abbrev pub entered_group : {L : Type 0} → (L → LeafValue) → LeafMeaning → FamilyContext → (List Bool → Heads) → Plain Bool → Code → Code → Plain L → List Bool → List Visit
-entered_group value M family H choice p q t v =
-    visits_at M family.options.now.mode (truths_in family.choices.now v) (heads_where (leaf_of choice v) (H v)) p (kept_by true (leaf_of choice v) (value (leaf_of t v)))
-    ++ visits_at M family.options.now.mode (truths_in family.choices.now v) (heads_where (not (leaf_of choice v)) (H v)) q (kept_by false (leaf_of choice v) (value (leaf_of t v)))
+abbrev pub entered_group : {L : Type 0} → (L → LeafValue) → LeafMeaning → FamilyContext → (List Bool → Heads) → Plain Bool → Code → Code → rust.Ways (Tree L) → List Bool → List Visit
+entered_group value M family H choice p q ways v =
+    let mode = family.options.now.mode in
+    let b = leaf_of choice v in
+    let w = ways_at value ways v in
+    visits_both M mode (truths_in family.choices.now v) (heads_where b (H v)) (heads_where (not b) (H v)) p q (onto w (kept_by true b w.behind)) (kept_by false b w.behind)
 
--- the statements in the step and in the body of a loop
-abbrev pub entered_lap : {L : Type 0} → (L → LeafValue) → LeafMeaning → FamilyContext → (List Bool → Heads) → Code → Code → Plain L → List Bool → List Visit
-entered_lap value M family H step body t v =
-    let y = value (leaf_of t v) in
-    visits_at M family.options.now.mode (truths_in family.choices.now v) (H v) step (passed_with M family H body v y)
-    ++ visits_at M family.options.now.mode (truths_in family.choices.now v) (H v) body y
+-- the statements in a loop whose head has this leaf at a vector
+abbrev pub visits_in : LeafMeaning → Mode → List Bool → Heads → LoopParts → LeafValue → List Visit
+visits_in M mode ts H (TestFirst test step body) y =
+    visits_at M mode ts H step (enter (going_on M (body_at M mode ts H (TestFirst test step body) y)))
+    ++ visits_at M mode ts H body (enter (assumed M mode test true y))
+visits_in M mode ts H (TestLast body at test) y =
+    visits_at M mode ts H body (enter y)
+    ++ plain_visit at (If at test Done Done Done) (going_on M (body_at M mode ts H (TestLast body at test) y)) ∷ []
 
--- a loop and the statements in its step and in its body
-abbrev pub entered_loop : {L : Type 0} → (L → LeafValue) → LeafMeaning → FamilyContext → (List Bool → Heads) → Code → Place → Term → Code → Code → Plain L → List Bool → List Visit
-entered_loop value M family H s place test step body t v =
-    let y = assumed M family.options.now.mode test true (head_with M family H place test step body v (value (leaf_of t v))) in
-    loop_visit M family.options.now.mode (truths_in family.choices.now v) (H v) place s test step body (value (leaf_of t v))
-    ∷ (visits_at M family.options.now.mode (truths_in family.choices.now v) (H v) step (passed_with M family H body v y)
-    ++ visits_at M family.options.now.mode (truths_in family.choices.now v) (H v) body y)
+abbrev pub entered_lap : {L : Type 0} → (L → LeafValue) → LeafMeaning → FamilyContext → (List Bool → Heads) → LoopParts → Plain L → List Bool → List Visit
+entered_lap value M family H l head v = visits_in M family.options.now.mode (truths_in family.choices.now v) (H v) l (value (leaf_of head v))
+
+-- a loop and the statements in it
+abbrev pub entered_loop : {L : Type 0} → (L → LeafValue) → LeafMeaning → FamilyContext → (List Bool → Heads) → Code → Place → LoopParts → Plain L → List Bool → List Visit
+entered_loop value M family H s place l t v =
+    let mode = family.options.now.mode in
+    let ts = truths_in family.choices.now v in
+    loop_visit M mode ts (H v) place s l (value (leaf_of t v))
+    ∷ visits_in M mode ts (H v) l (head_with M family H place l v (value (leaf_of t v)))
 
 -- these statements, each with its tree and its alarm trees, the loops among them, and nothing else
 pub record HasEntered {L : Type 0} (value : L → LeafValue) (M : LeafMeaning) (family : FamilyContext) (before now : Noted L) (entries : List Bool → List Visit) : Type 0 where

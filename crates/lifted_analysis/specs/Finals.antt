@@ -1,7 +1,6 @@
 -- What an analysis of a family remembers of its loops.
 use Rattle.std.specs.Prelude.{◌≡◌, Bool, List, ◌==◌, ◌&&◌}
 use Rattle.std.specs.List.{AllByRecursion}
-use Rattle.c_tree.specs.Tree.{Term, Code}
 use Rattle.c_tree.specs.View.{whole}
 use Rattle.decision_tree.specs.declared.tree.Tree.{Tree}
 use Rattle.decision_tree.specs.Listed.{IsOf}
@@ -10,6 +9,7 @@ use Rattle.decision_tree.specs.Plain.{Plain, leaf_of}
 use Rattle.decision_tree.specs.View.{numbered, plain}
 use Rattle.leaf_domain.specs.Leaves.{LeafValue, LeafMeaning}
 use Rattle.plain_analysis.specs.Stated.{IsLoopAt}
+use Rattle.plain_analysis.specs.Statements.{LoopParts}
 use Rattle.lifted_analysis.specs.declared.family_context.FamilyContext.{FamilyContext}
 use Rattle.lifted_analysis.specs.declared.finals.Entered.{Entered}
 use Rattle.lifted_analysis.specs.declared.finals.Finals.{Finals}
@@ -26,8 +26,8 @@ pub record IsFinal {L : Type 0} (value : L → LeafValue) (M : LeafMeaning) (fam
   pub number : root entered ≡ k.number
   pub own : IsOf forest entered
   pub state : IsState value family forest (numbered last)
-  pub final : (test : Term) (step body : Code) → IsLoopAt (whole family.program.now) k.place test step body
-      → (v : List Bool) → value (leaf_of (plain last) v) ≡ final_at M family test step body v (value (leaf_of (erase entered) v))
+  pub final : (l : LoopParts) → IsLoopAt (whole family.program.now) k.place l
+      → (v : List Bool) → value (leaf_of (plain last) v) ≡ final_at M family l v (value (leaf_of (erase entered) v))
 
 -- all that is remembered is so
 pub record Remembers {L : Type 0} (value : L → LeafValue) (M : LeafMeaning) (family : FamilyContext) (forest : List (Plain L)) (f : Finals L) : Type 0 where

@@ -15,6 +15,7 @@ use Rattle.leaf_domain.specs.Leaves.{LeafValue, LeafMeaning}
 use Rattle.plain_analysis.specs.declared.options.Options.{Options}
 use Rattle.plain_analysis.specs.Places.{at_by, alarm_by}
 use Rattle.plain_analysis.specs.Statements.{Heads}
+use Rattle.plain_analysis.specs.Ways.{enter}
 use Rattle.lifted_analysis.specs.declared.noted.Noted.{Noted}
 use Rattle.lifted_analysis.specs.declared.noted.TurnTree.{TurnTree}
 use Rattle.lifted_analysis.specs.declared.family_context.FamilyContext.{FamilyContext}
@@ -44,7 +45,7 @@ pub record HasNoted {L : Type 0} (value : L → LeafValue) (M : LeafMeaning) (fa
   pub stops : (v : List Bool) → map (stop_there v) f.alarms.items
       ≡ map (λ (q : Place × Kind). (q, alarm_by M family.options.now.mode (H v) (projected_program (truths_in family.choices.now v) p) (start_at M family p.start p.declared v) q.0 q.1)) (by_kind (program_places p))
   pub turns : (v : List Bool) → map {B = Place × Bool} (λ (t : TurnTree L). (t.place, is_inductive M (turn_there value v t))) f.turns.items
-      ≡ map (λ (q : Place). (q, inductive_in M (turns_by M family.options.now.mode (H v) (projected (truths_in family.choices.now v) p.body) (start_at M family p.start p.declared v)) q)) (loop_places p.body)
+      ≡ map (λ (q : Place). (q, inductive_in M (turns_by M family.options.now.mode (H v) (projected (truths_in family.choices.now v) p.body) (enter (start_at M family p.start p.declared v))) q)) (loop_places p.body)
   pub trees : AreReduced family f.places.items
   pub alarm_trees : AreReducedStops family f.alarms.items
   pub sized : AreSized value family f.turns.items

@@ -29,7 +29,7 @@ given_at M (l ∷ ls) v d q =
 
 -- the same as the heads of a pass
 abbrev pub given_heads : LeafMeaning → List LoopLine → List Bool → LeafValue → Heads
-given_heads M lines v d place test lap x = given_at M lines v d place
+given_heads M lines v d place lap x = given_at M lines v d place
 
 -- ranges within `int`, one for each of so many variables, where there are any
 abbrev pub AreVariableBounds : ℕ → Option (List Range) → Type 0

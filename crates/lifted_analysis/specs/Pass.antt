@@ -22,6 +22,7 @@ use Rattle.lifted_analysis.specs.Promises.{variant_at, begin_at, by_kind, valued
 use Rattle.lifted_analysis.specs.Turns.{Turn, turns_by, inductive_in, loop_places}
 use Rattle.plain_analysis.specs.Places.{at_by, alarm_by}
 use Rattle.plain_analysis.specs.Statements.{Heads}
+use Rattle.plain_analysis.specs.Ways.{enter}
 
 -- the heads of loops at a vector
 abbrev pub heads_at : LeafMeaning → Whole → List Formula → Formula → List LoopLine → List Bool → Heads
@@ -40,7 +41,7 @@ pass_stop_at M mode p conditions plausible lines at v =
 -- the loops of that pass
 abbrev pub turns_at_vector : LeafMeaning → Mode → Whole → List Formula → Formula → List LoopLine → List Bool → List Turn
 turns_at_vector M mode p conditions plausible lines v =
-    turns_by M mode (heads_at M p conditions plausible lines v) (variant_at p conditions v).body (begin_at M p conditions plausible v)
+    turns_by M mode (heads_at M p conditions plausible lines v) (variant_at p conditions v).body (enter (begin_at M p conditions plausible v))
 
 -- whether the loop at a place is inductive in that pass
 abbrev pub inductive_at : LeafMeaning → Mode → Whole → List Formula → Formula → List LoopLine → Place → List Bool → Bool

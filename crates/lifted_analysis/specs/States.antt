@@ -8,6 +8,8 @@ use Rattle.decision_tree.specs.Numbered.{Numbered, kept, erase}
 use Rattle.decision_tree.specs.Listed.{IsNumberedTree, IsTreeIn, Keeps}
 use Rattle.decision_tree.specs.View.{numbered, plain}
 use Rattle.leaf_domain.specs.Leaves.{LeafValue}
+use Rattle.plain_analysis.specs.declared.ways.Ways as rust
+use Rattle.plain_analysis.specs.Ways.{Ways}
 use Rattle.tree_unify.specs.Formulas.{HasNumber}
 use Rattle.lifted_analysis.specs.declared.family_context.FamilyContext.{FamilyContext}
 use Rattle.lifted_analysis.specs.declared.lines.LoopLine.{LoopLine}
@@ -45,6 +47,15 @@ pub record IsTruth (family : FamilyContext) (t : Numbered Bool) : Type 0 where
   pub tree : IsNumberedTree 0 320 t
   pub tests : (k : ℕ) → HasTest k (erase t) → IsTest family k
 
+-- what stands at a vector, of the four trees of what was passed
+abbrev pub ways_at : {L : Type 0} → (L → LeafValue) → rust.Ways (Tree L) → List Bool → Ways
+ways_at value w v = record {
+  behind = value (leaf_of (plain w.behind) v);
+  broke = value (leaf_of (plain w.broke) v);
+  continued = value (leaf_of (plain w.continued) v);
+  returned = value (leaf_of (plain w.returned) v);
+}
+
 module _ {L : Type 0} (value : L → LeafValue) (family : FamilyContext) where
   -- a reduced tree of the forest whose tests are the family's, and whose leaves are over its variables
   pub record IsState (forest : List (Plain L)) (t : Numbered L) : Type 0 where
@@ -69,3 +80,22 @@ module _ {L : Type 0} (value : L → LeafValue) (family : FamilyContext) where
     pub state : IsState after r
     pub keeps : Keeps before after
     pub at_each : (v : List Bool) → value (leaf_of (erase r) v) ≡ f v (value (leaf_of t v)) (value (leaf_of u v))
+
+  -- a state that has, at every vector, what G has there; the forest keeps what it had
+  pub record IsMade (before after : List (Plain L)) (G : List Bool → LeafValue) (r : Numbered L) : Type 0 where
+    pub state : IsState after r
+    pub keeps : Keeps before after
+    pub at_each : (v : List Bool) → value (leaf_of (erase r) v) ≡ G v
+
+  -- all four trees of what was passed are states
+  pub record AreStates (forest : List (Plain L)) (w : rust.Ways (Tree L)) : Type 0 where
+    pub behind : IsState forest (numbered w.behind)
+    pub broke : IsState forest (numbered w.broke)
+    pub continued : IsState forest (numbered w.continued)
+    pub returned : IsState forest (numbered w.returned)
+
+  -- states that are, at every vector, what G has there; the forest keeps what it had
+  pub record AreMade (before after : List (Plain L)) (G : List Bool → Ways) (r : rust.Ways (Tree L)) : Type 0 where
+    pub states : AreStates after r
+    pub keeps : Keeps before after
+    pub at_each : (v : List Bool) → ways_at value r v ≡ G v

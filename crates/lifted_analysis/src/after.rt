@@ -1,4 +1,4 @@
-//! The tree after statements of a family.
+//! What statements of a family make of what was passed.
 #![tactic(auto)]
 
 ghost use Rattle.std.specs.Prelude.{◌≡◌, IfOk, OnOk, true, List, Bool};
@@ -10,10 +10,12 @@ ghost use Rattle.decision_tree.specs.Plain.{leaf_of};
 ghost use Rattle.decision_tree.specs.View.{numbered, plain};
 ghost use Rattle.plain_analysis.specs.Loops.{widened_leaf, narrowing_of};
 ghost use Rattle.plain_analysis.specs.Stated.{IsPartOf, IsLoopOf};
+ghost use Rattle.plain_analysis.specs.View.{parts_of};
 ghost use Rattle.lifted_analysis.specs.Finals.{Remembers};
-ghost use Rattle.lifted_analysis.specs.Heads.{IsHeadOf, turns_over, final_over};
-ghost use Rattle.lifted_analysis.specs.States.{IsFamily, IsState, IsLifted, IsTruth};
-ghost use Rattle.lifted_analysis.specs.Steps.{after_at, if_at, group_at};
+ghost use Rattle.lifted_analysis.specs.Heads.{IsHeadOf, turns_over, lap_over, final_over};
+ghost use Rattle.lifted_analysis.specs.Rules.{ended_heads, body_with, behind_with, AreCountedWith};
+ghost use Rattle.lifted_analysis.specs.States.{IsFamily, IsState, IsLifted, IsTruth, AreStates, AreMade, ways_at};
+ghost use Rattle.lifted_analysis.specs.Steps.{after_at, both_at, if_at, group_at};
 
 use crate::family_context::FamilyContext;
 use crate::finals::{Entered, Finals, find, remember};
@@ -22,69 +24,71 @@ use crate::states::{
     below, combined, is_everywhere, is_nothing_everywhere, joined, kept, selected, stepped,
 };
 use crate::tables::Tables;
+use crate::testing::{failing, inside};
+use crate::ways::{after_step, behind_loop, enter, going_on, keep_behind, leave};
 use c_tree::{Expr, Stmt};
 use decision_tree::Tree;
 use fam_outer::NoMemory;
 use leaf_domain::{Leaf, transfer_is_sound};
-use plain_analysis::{Loop, round_count};
+use plain_analysis::{Loop, Parts, Ways, round_count};
 use std::sync::ledger::Ledger;
 
-/// The tree after a list of statements that is entered with `t`. Nothing stays Nothing.
+/// What a list of statements makes of what was passed. With Nothing behind at all vectors, nothing changes.
 #[cycle(after)]
 pub(crate) fn after_list<L: Leaf, K: Ledger>(
     tables: &mut Tables<L, K>,
     finals: &mut Finals<L>,
     family: &FamilyContext,
     list: &[Stmt],
-    t: &Tree<L>,
-) -> Result<Tree<L>, NoMemory>
+    ways: Ways<Tree<L>>,
+) -> Result<Ways<Tree<L>>, NoMemory>
     requires family { IsFamily family.now }
     requires part { IsPartOf family.now.variables (whole family.now.program.now) (code list.now) }
-    requires state { IsState L.value family.now tables.old.leaves (numbered t.now) }
+    requires states { AreStates L.value family.now tables.old.leaves ways }
     requires memory { Remembers L.value L.meaning family.now tables.old.leaves finals.old }
-    ensures lifted { IfOk result (λ r. IsLifted L.value family.now tables.old.leaves tables.new.leaves
-        (after_at L.meaning family.now (code list.now)) (plain t.now) (numbered r)) }
+    ensures made { IfOk result (λ r. AreMade L.value family.now tables.old.leaves tables.new.leaves
+        (λ v. after_at L.meaning family.now (code list.now) v (ways_at L.value ways v)) r) }
     ensures memory { OnOk result (Remembers L.value L.meaning family.now tables.new.leaves finals.new) }
 {
     transfer_is_sound::<L>();
-    if is_nothing_everywhere(t) {
-        return t.share();
+    if is_nothing_everywhere(&ways.behind) {
+        return Ok(ways);
     }
-    let mut made = t.share()?;
+    let mut made = ways;
     for s in list {
-        made = after_stmt(tables, finals, family, s, &made)?;
+        made = after_stmt(tables, finals, family, s, made)?;
     }
     Ok(made)
 }
 
-/// The tree after a statement that is entered with `t`. Nothing stays Nothing.
+/// What a statement makes of what was passed. With Nothing behind at all vectors, nothing changes.
 #[cycle(after)]
 fn after_stmt<L: Leaf, K: Ledger>(
     tables: &mut Tables<L, K>,
     finals: &mut Finals<L>,
     family: &FamilyContext,
     s: &Stmt,
-    t: &Tree<L>,
-) -> Result<Tree<L>, NoMemory>
+    ways: Ways<Tree<L>>,
+) -> Result<Ways<Tree<L>>, NoMemory>
     requires family { IsFamily family.now }
     requires part { IsPartOf family.now.variables (whole family.now.program.now) (front s.now Done) }
-    requires state { IsState L.value family.now tables.old.leaves (numbered t.now) }
+    requires states { AreStates L.value family.now tables.old.leaves ways }
     requires memory { Remembers L.value L.meaning family.now tables.old.leaves finals.old }
-    ensures lifted { IfOk result (λ r. IsLifted L.value family.now tables.old.leaves tables.new.leaves
-        (after_at L.meaning family.now (front s.now Done)) (plain t.now) (numbered r)) }
+    ensures made { IfOk result (λ r. AreMade L.value family.now tables.old.leaves tables.new.leaves
+        (λ v. after_at L.meaning family.now (front s.now Done) v (ways_at L.value ways v)) r) }
     ensures memory { OnOk result (Remembers L.value L.meaning family.now tables.new.leaves finals.new) }
 {
     transfer_is_sound::<L>();
-    if is_nothing_everywhere(t) {
-        return t.share();
+    if is_nothing_everywhere(&ways.behind) {
+        return Ok(ways);
     }
     match s {
         Stmt::Assign { target, value, .. } => {
-            stepped(tables, family, &Step::Assign(*target, value), t)
+            after_step(tables, family, &Step::Assign(*target, value), ways)
         }
-        Stmt::Input { target, .. } => stepped(tables, family, &Step::Forget(*target), t),
-        Stmt::Assert { test, .. } => stepped(tables, family, &Step::Assume(test, true), t),
-        Stmt::If { test, yes, no, .. } => after_if(tables, finals, family, yes, no, test, t),
+        Stmt::Input { target, .. } => after_step(tables, family, &Step::Forget(*target), ways),
+        Stmt::Assert { test, .. } => after_step(tables, family, &Step::Assume(test, true), ways),
+        Stmt::If { test, yes, no, .. } => after_if(tables, finals, family, yes, no, test, ways),
         Stmt::While {
             place,
             test,
@@ -93,23 +97,78 @@ fn after_stmt<L: Leaf, K: Ledger>(
         } => {
             let the_loop = Loop {
                 place: *place,
-                test,
-                step,
-                body,
+                parts: Parts::TestFirst { test, step, body },
             };
-            let last = final_tree(tables, finals, family, &the_loop, t)?;
-            stepped(tables, family, &Step::Assume(test, false), &last)
+            after_loop(tables, finals, family, &the_loop, ways)
         }
-        Stmt::Block { body, .. } => after_list(tables, finals, family, body, t),
-        Stmt::Skip { .. } => t.share(),
+        Stmt::Do {
+            place,
+            body,
+            test_place,
+            test,
+        } => {
+            let the_loop = Loop {
+                place: *place,
+                parts: Parts::TestLast {
+                    body,
+                    test_place: *test_place,
+                    test,
+                },
+            };
+            after_loop(tables, finals, family, &the_loop, ways)
+        }
+        Stmt::Leave { jump, .. } => leave(tables, family, jump, ways),
+        Stmt::Block { body, .. } => after_list(tables, finals, family, body, ways),
+        Stmt::Skip { .. } => Ok(ways),
         Stmt::Cond { number, yes, no } => {
             let choice = family.choice(*number);
-            after_group(tables, finals, family, yes, no, choice, t)
+            after_group(tables, finals, family, yes, no, choice, ways)
         }
     }
 }
 
-/// The tree after two lists of statements, of which the first is entered where a test is not 0, and the second where it is.
+/// What two lists of statements make of what was passed, one after the other, of which the second is entered with `second`.
+#[cycle(after)]
+fn after_both<L: Leaf, K: Ledger>(
+    tables: &mut Tables<L, K>,
+    finals: &mut Finals<L>,
+    family: &FamilyContext,
+    yes: &[Stmt],
+    no: &[Stmt],
+    ways: Ways<Tree<L>>,
+    second: Tree<L>,
+) -> Result<Ways<Tree<L>>, NoMemory>
+    requires family { IsFamily family.now }
+    requires yes { IsPartOf family.now.variables (whole family.now.program.now) (code yes.now) }
+    requires no { IsPartOf family.now.variables (whole family.now.program.now) (code no.now) }
+    requires states { AreStates L.value family.now tables.old.leaves ways }
+    requires second { IsState L.value family.now tables.old.leaves (numbered second) }
+    requires memory { Remembers L.value L.meaning family.now tables.old.leaves finals.old }
+    ensures made { IfOk result (λ r. AreMade L.value family.now tables.old.leaves tables.new.leaves
+        (λ v. both_at L.meaning family.now (code yes.now) (code no.now) v (ways_at L.value ways v) (L.value (leaf_of (plain second) v))) r) }
+    ensures counted { IfOk result (λ r. (v : List Bool) → AreCountedWith L.meaning family.now
+        (ended_heads L.meaning family.now) (ended_heads L.meaning family.now)
+        (code yes.now) (code no.now) v (ways_at L.value ways v) (L.value (leaf_of (plain second) v))) }
+    ensures memory { OnOk result (Remembers L.value L.meaning family.now tables.new.leaves finals.new) }
+{
+    let first = after_list(tables, finals, family, yes, ways)?;
+    let entered = Ways {
+        behind: second,
+        broke: first.broke,
+        continued: first.continued,
+        returned: first.returned,
+    };
+    let made = after_list(tables, finals, family, no, entered)?;
+    let behind = joined(tables, family, &first.behind, &made.behind)?;
+    Ok(Ways {
+        behind,
+        broke: made.broke,
+        continued: made.continued,
+        returned: made.returned,
+    })
+}
+
+/// What the two sides of a test make of what was passed, of which the first is entered where the test is not 0.
 #[cycle(after)]
 fn after_if<L: Leaf, K: Ledger>(
     tables: &mut Tables<L, K>,
@@ -118,27 +177,24 @@ fn after_if<L: Leaf, K: Ledger>(
     yes: &[Stmt],
     no: &[Stmt],
     test: &Expr,
-    t: &Tree<L>,
-) -> Result<Tree<L>, NoMemory>
+    ways: Ways<Tree<L>>,
+) -> Result<Ways<Tree<L>>, NoMemory>
     requires family { IsFamily family.now }
     requires test { IsTermOf family.now.variables (term test.now) }
     requires yes { IsPartOf family.now.variables (whole family.now.program.now) (code yes.now) }
     requires no { IsPartOf family.now.variables (whole family.now.program.now) (code no.now) }
-    requires state { IsState L.value family.now tables.old.leaves (numbered t.now) }
+    requires states { AreStates L.value family.now tables.old.leaves ways }
     requires memory { Remembers L.value L.meaning family.now tables.old.leaves finals.old }
-    ensures lifted { IfOk result (λ r. IsLifted L.value family.now tables.old.leaves tables.new.leaves
-        (if_at L.meaning family.now (term test.now) (code yes.now) (code no.now)) (plain t.now)
-        (numbered r)) }
+    ensures made { IfOk result (λ r. AreMade L.value family.now tables.old.leaves tables.new.leaves
+        (λ v. if_at L.meaning family.now (term test.now) (code yes.now) (code no.now) v (ways_at L.value ways v)) r) }
     ensures memory { OnOk result (Remembers L.value L.meaning family.now tables.new.leaves finals.new) }
 {
-    let in_yes = stepped(tables, family, &Step::Assume(test, true), t)?;
-    let in_no = stepped(tables, family, &Step::Assume(test, false), t)?;
-    let after_yes = after_list(tables, finals, family, yes, &in_yes)?;
-    let after_no = after_list(tables, finals, family, no, &in_no)?;
-    joined(tables, family, &after_yes, &after_no)
+    let in_no = stepped(tables, family, &Step::Assume(test, false), &ways.behind)?;
+    let in_yes = after_step(tables, family, &Step::Assume(test, true), ways)?;
+    after_both(tables, finals, family, yes, no, in_yes, in_no)
 }
 
-/// The tree after a section of groups: each side is entered with Nothing where it is not kept.
+/// What a section of groups makes of what was passed: each list is entered with Nothing where it is not kept.
 #[cycle(after)]
 fn after_group<L: Leaf, K: Ledger>(
     tables: &mut Tables<L, K>,
@@ -147,25 +203,98 @@ fn after_group<L: Leaf, K: Ledger>(
     yes: &[Stmt],
     no: &[Stmt],
     choice: &Tree<bool>,
-    t: &Tree<L>,
-) -> Result<Tree<L>, NoMemory>
+    ways: Ways<Tree<L>>,
+) -> Result<Ways<Tree<L>>, NoMemory>
     requires family { IsFamily family.now }
     requires choice { IsTruth family.now (numbered choice.now) }
     requires yes { IsPartOf family.now.variables (whole family.now.program.now) (code yes.now) }
     requires no { IsPartOf family.now.variables (whole family.now.program.now) (code no.now) }
-    requires state { IsState L.value family.now tables.old.leaves (numbered t.now) }
+    requires states { AreStates L.value family.now tables.old.leaves ways }
     requires memory { Remembers L.value L.meaning family.now tables.old.leaves finals.old }
-    ensures lifted { IfOk result (λ r. IsLifted L.value family.now tables.old.leaves tables.new.leaves
-        (group_at L.meaning family.now (plain choice.now) (code yes.now) (code no.now)) (plain t.now)
-        (numbered r)) }
+    ensures made { IfOk result (λ r. AreMade L.value family.now tables.old.leaves tables.new.leaves
+        (λ v. group_at L.meaning family.now (plain choice.now) (code yes.now) (code no.now) v (ways_at L.value ways v)) r) }
     ensures memory { OnOk result (Remembers L.value L.meaning family.now tables.new.leaves finals.new) }
 {
     transfer_is_sound::<L>();
-    let in_yes = kept(tables, family, choice, true, t)?;
-    let in_no = kept(tables, family, choice, false, t)?;
-    let after_yes = after_list(tables, finals, family, yes, &in_yes)?;
-    let after_no = after_list(tables, finals, family, no, &in_no)?;
-    joined(tables, family, &after_yes, &after_no)
+    let in_no = kept(tables, family, choice, false, &ways.behind)?;
+    let in_yes = keep_behind(tables, family, choice, ways)?;
+    after_both(tables, finals, family, yes, no, in_yes, in_no)
+}
+
+/// What a loop makes of what was passed: its body is passed once more, from its final tree.
+#[cycle(after)]
+fn after_loop<L: Leaf, K: Ledger>(
+    tables: &mut Tables<L, K>,
+    finals: &mut Finals<L>,
+    family: &FamilyContext,
+    the_loop: &Loop<'_>,
+    ways: Ways<Tree<L>>,
+) -> Result<Ways<Tree<L>>, NoMemory>
+    requires family { IsFamily family.now }
+    requires own { IsLoopOf family.now.variables (whole family.now.program.now) the_loop.now }
+    requires states { AreStates L.value family.now tables.old.leaves ways }
+    requires memory { Remembers L.value L.meaning family.now tables.old.leaves finals.old }
+    ensures made { IfOk result (λ r. AreMade L.value family.now tables.old.leaves tables.new.leaves
+        (λ v. behind_with L.meaning family.now (ended_heads L.meaning family.now) (parts_of the_loop.now.parts) v (ways_at L.value ways v)
+        (final_over L.meaning family.now the_loop.now v (ways_at L.value ways v).behind)) r) }
+    ensures memory { OnOk result (Remembers L.value L.meaning family.now tables.new.leaves finals.new) }
+{
+    let last = final_tree(tables, finals, family, the_loop, &ways.behind)?;
+    let left = through_body(tables, finals, family, the_loop, &last)?;
+    let failed = failing(tables, family, the_loop, &last, &left)?;
+    behind_loop(tables, family, ways, &failed, &left)
+}
+
+/// What the body of a loop makes of the tree at the loop's head.
+#[cycle(after)]
+fn through_body<L: Leaf, K: Ledger>(
+    tables: &mut Tables<L, K>,
+    finals: &mut Finals<L>,
+    family: &FamilyContext,
+    the_loop: &Loop<'_>,
+    at: &Tree<L>,
+) -> Result<Ways<Tree<L>>, NoMemory>
+    requires family { IsFamily family.now }
+    requires own { IsLoopOf family.now.variables (whole family.now.program.now) the_loop.now }
+    requires at { IsState L.value family.now tables.old.leaves (numbered at.now) }
+    requires memory { Remembers L.value L.meaning family.now tables.old.leaves finals.old }
+    ensures made { IfOk result (λ r. AreMade L.value family.now tables.old.leaves tables.new.leaves
+        (λ v. body_with L.meaning family.now (ended_heads L.meaning family.now) (parts_of the_loop.now.parts) v
+        (L.value (leaf_of (plain at.now) v))) r) }
+    ensures memory { OnOk result (Remembers L.value L.meaning family.now tables.new.leaves finals.new) }
+{
+    let entered = inside(tables, family, the_loop, at)?;
+    let start = enter(tables, family, entered)?;
+    after_list(tables, finals, family, the_loop.body(), start)
+}
+
+/// What a lap makes of the tree at the head of a loop: behind the body the step comes, or the test holds.
+#[cycle(after)]
+fn lap<L: Leaf, K: Ledger>(
+    tables: &mut Tables<L, K>,
+    finals: &mut Finals<L>,
+    family: &FamilyContext,
+    the_loop: &Loop<'_>,
+    at: &Tree<L>,
+) -> Result<Tree<L>, NoMemory>
+    requires family { IsFamily family.now }
+    requires own { IsLoopOf family.now.variables (whole family.now.program.now) the_loop.now }
+    requires at { IsState L.value family.now tables.old.leaves (numbered at.now) }
+    requires memory { Remembers L.value L.meaning family.now tables.old.leaves finals.old }
+    ensures lifted { IfOk result (λ r. IsLifted L.value family.now tables.old.leaves tables.new.leaves
+        (lap_over L.meaning family.now the_loop.now) (plain at.now) (numbered r)) }
+    ensures memory { OnOk result (Remembers L.value L.meaning family.now tables.new.leaves finals.new) }
+{
+    let left = through_body(tables, finals, family, the_loop, at)?;
+    let on = going_on(tables, family, &left)?;
+    match the_loop.parts {
+        Parts::TestFirst { step, .. } => {
+            let start = enter(tables, family, on)?;
+            let made = after_list(tables, finals, family, step, start)?;
+            Ok(made.behind)
+        }
+        Parts::TestLast { test, .. } => stepped(tables, family, &Step::Assume(test, true), &on),
+    }
 }
 
 /// The tree at the head of a loop, and that of what comes in there with its leaves.
@@ -196,9 +325,7 @@ fn head_at<L: Leaf, K: Ledger>(
     ensures keeps { IfOk result (λ head. Keeps tables.old.leaves tables.new.leaves) }
     ensures memory { OnOk result (Remembers L.value L.meaning family.now tables.new.leaves finals.new) }
 {
-    let inside = stepped(tables, family, &Step::Assume(the_loop.test, true), &at)?;
-    let behind = after_list(tables, finals, family, the_loop.body, &inside)?;
-    let again = after_list(tables, finals, family, the_loop.step, &behind)?;
+    let again = lap(tables, finals, family, the_loop, &at)?;
     let next = joined(tables, family, t, &again)?;
     Ok(Head { at, next })
 }

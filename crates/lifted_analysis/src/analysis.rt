@@ -28,6 +28,7 @@ use crate::noted::Noted;
 use crate::rule::rule_of;
 use crate::start::start_tree;
 use crate::tables::Tables;
+use crate::ways::{end, enter};
 use c_tree::{Kind, Program};
 use cpp_conditions::Formula;
 use decision_tree::Tree;
@@ -101,7 +102,8 @@ pub(crate) fn noted_in<L: Leaf, K: Ledger>(
         entries: IndexMap::new(alloc),
     };
     let here = tables.truths.leaf(true)?;
-    let tree = enter_list(
+    let entered = enter(tables, family, start)?;
+    let ways = enter_list(
         tables,
         &mut finals,
         &mut noted,
@@ -109,8 +111,9 @@ pub(crate) fn noted_in<L: Leaf, K: Ledger>(
         &rule,
         &here,
         &code.body,
-        &start,
+        entered,
     )?;
+    let tree = end(tables, family, &ways)?;
     add_end(&mut noted, family, code.end, tree)?;
     Ok(noted)
 }

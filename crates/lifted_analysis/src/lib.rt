@@ -19,6 +19,8 @@ mod rule;
 mod start;
 mod states;
 mod tables;
+mod testing;
+mod ways;
 
 pub use analysis::analyse_family;
 pub use findings::{AlarmTree, FamilyFindings, LoopTree, PassFindings, PlaceTree};

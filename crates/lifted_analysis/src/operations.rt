@@ -10,19 +10,21 @@ use crate::lines::Ranges;
 use c_tree::{Expr, Mode};
 use fam_outer::NoMemory;
 use leaf_domain::{
-    Leaf, Range, Thresholds, assign, assume, forget, leaf_is_valid, transfer_is_sound,
+    Leaf, Range, Thresholds, assign, assume, forget, leaf_is_valid, transfer_is_sound, valued,
 };
 use plain_analysis::{joined, narrowed_by, round};
 use std::alloc::Global;
 use tree_unify::Operation;
 
-/// What a straight statement, a test or a line does to a leaf: a variable is set to a value or to any input, the value of a test
-/// is known to be other than 0, or to be 0, or each variable is set to its range.
+/// What a straight statement, a test, a value or a line does to a leaf: a variable is set to a value or to any input, the value
+/// of a test is known to be other than 0, or to be 0, an expression is known to have a value, or each variable is set to its
+/// range.
 #[derive(Drop)]
 pub(crate) enum Step<'a> {
     Assign(u32, &'a Expr),
     Forget(u32),
     Assume(&'a Expr, bool),
+    Evaluate(&'a Expr),
     Bound(&'a Option<Ranges>),
 }
 
@@ -74,6 +76,7 @@ impl Step<'_> {
             Step::Assign(x, e) => assign(alloc, leaf, *x, e, mode),
             Step::Forget(x) => forget(alloc, leaf, *x),
             Step::Assume(e, want) => assume(alloc, leaf, e, *want, mode),
+            Step::Evaluate(e) => valued(alloc, leaf, e, mode),
             Step::Bound(bounds) => bounded(alloc, leaf, bounds),
         }
     }

@@ -134,13 +134,13 @@ fn pass_counted<L: Leaf, K: Ledger>(
 ///
 /// Vectors, programs, start values and `plausible` are as for `analyse_family`. At a vector a loop has at its head the start
 /// values with each variable set to its range in the first line at its place whose region holds there; it has Nothing where
-/// there is no such line, or where that line has no ranges. The loop goes on from there alone, and its body and then its step
-/// are passed once. So a pass takes no rounds. Lines at other places say nothing.
+/// there is no such line, or where that line has no ranges. The loop goes on from there alone, and a lap is passed once. So a pass
+/// takes no rounds. Lines at other places say nothing.
 ///
 /// The trees of places and the alarm trees are those of `analyse_family`, of the pass over each vector's program in place of
 /// its analysis. For each loop of the family, in the order of the text, there is one reduced tree, which is true at exactly the
-/// vectors at which the loop is inductive in that pass: the leaf with which it is entered and the leaf after its body and then
-/// its step are below the one at its head; or the vector's program lacks the loop. Where all loops of a vector's program are
+/// vectors at which the loop is inductive in that pass: the leaf with which it is entered and the leaf after a lap are below
+/// the one at its head; or the vector's program lacks the loop. Where all loops of a vector's program are
 /// inductive, the pass foresees each run from each store that the first leaf of the vector holds. All trees of stops and of
 /// loops have numbers. The only refusal is want of memory.
 pub fn pass_family<L: Leaf>(

@@ -4,13 +4,13 @@
 ghost use Rattle.std.specs.Prelude.{◌≡◌, [], ◌∷◌, OnOk};
 ghost use Rattle.std.specs.List.{filter};
 ghost use Rattle.c_tree.specs.Tree.{Done};
-ghost use Rattle.c_tree.specs.View.{term, front, code};
-ghost use Rattle.loop_thresholds.specs.Numbers.{numbers_of_term, numbers_of};
+ghost use Rattle.c_tree.specs.View.{term, jump_of, front, code};
+ghost use Rattle.loop_thresholds.specs.Numbers.{numbers_of_term, numbers_of_jump, numbers_of};
 ghost use Rattle.loop_thresholds.specs.Thresholds.{is_int, candidates};
 ghost use Rattle.loop_thresholds.specs.Keeping.{keep_all, keep_near};
 
 use crate::insertion::{Order, insert};
-use c_tree::{Expr, Stmt};
+use c_tree::{Expr, Jump, Stmt};
 use fam_outer::NoMemory;
 
 /// How many numbers are kept.
@@ -63,6 +63,18 @@ fn keep_term(expr: &Expr, kept: &mut Vec<i64>) -> Result<(), NoMemory>
     }
 }
 
+/// Keeps the candidates of the numbers of a jump.
+#[tactic(auto, using(crate::proofs::Kept::keeps))]
+fn keep_jump(jump: &Jump, kept: &mut Vec<i64>) -> Result<(), NoMemory>
+    ensures { OnOk result (kept.new.items ≡ keep_near kept.old.items (numbers_of_jump (jump_of jump.now))) }
+{
+    match jump {
+        Jump::Break => Ok(()),
+        Jump::Continue => Ok(()),
+        Jump::Return(value) => keep_term(value, kept),
+    }
+}
+
 /// Keeps the candidates of the numbers of a list of statements.
 #[cycle(walk)]
 #[tactic(auto, using(crate::proofs::Kept::keeps))]
@@ -100,6 +112,11 @@ fn keep_stmt(s: &Stmt, kept: &mut Vec<i64>) -> Result<(), NoMemory>
             keep_list(step, kept)?;
             keep_list(body, kept)
         }
+        Stmt::Do { body, test, .. } => {
+            keep_list(body, kept)?;
+            keep_term(test, kept)
+        }
+        Stmt::Leave { jump, .. } => keep_jump(jump, kept),
         Stmt::Block { body, .. } => keep_list(body, kept),
         Stmt::Cond { yes, no, .. } => {
             keep_list(yes, kept)?;

@@ -5,7 +5,6 @@ use Rattle.std.specs.List.{AllByRecursion}
 use Rattle.std.specs.Map.{lookup}
 use Rattle.indexmap.specs.IndexMap.{insert_entry}
 use Rattle.fam_outer.specs.declared.faults.Place.{Place}
-use Rattle.c_tree.specs.Tree.{Term, Code}
 use Rattle.c_tree.specs.View.{whole}
 use Rattle.leaf_domain.specs.Leaves.{LeafValue, LeafMeaning}
 use Rattle.plain_analysis.specs.declared.finals.Entered.{Entered}
@@ -14,7 +13,7 @@ use Rattle.plain_analysis.specs.declared.task.Task.{Task}
 use Rattle.plain_analysis.specs.Finals.{same_entered, IsFinal, Remembers}
 use Rattle.plain_analysis.specs.Loops.{final_leaf}
 use Rattle.plain_analysis.specs.Stated.{IsLoopAt}
-use Rattle.plain_analysis.specs.Statements.{lap_of}
+use Rattle.plain_analysis.specs.Statements.{LoopParts, lap_of}
 use Rattle.plain_analysis.proofs.StatedLemmas.{one_loop}
 use Rattle.plain_analysis.proofs.TableLemmas.{found_entry, inserted_entry}
 
@@ -62,14 +61,11 @@ module _ {L : Type 0} (eq : L → L → Bool) (exact : (a b : L) → eq a b ≡ 
 
 module _ {L : Type 0} (value : L → LeafValue) (M : LeafMeaning) (t : Task) where
   -- the final leaf of the loop that stands at the place
-  pub is_final : (place : Place) (leaf last : L) (test : Term) (step body : Code) → IsLoopAt (whole t.program.now) place test step body → (value last).variables ≡ (value leaf).variables
-      → value last ≡ final_leaf M t.options.now test (lap_of M t.options.now step body) (value leaf) → IsFinal value M t (record { place = place; leaf = leaf }) last
-  is_final place leaf last test step body here same e = record {
+  pub is_final : (place : Place) (leaf last : L) (l : LoopParts) → IsLoopAt (whole t.program.now) place l → (value last).variables ≡ (value leaf).variables
+      → value last ≡ final_leaf M t.options.now (lap_of M t.options.now l) (value leaf) → IsFinal value M t (record { place = place; leaf = leaf }) last
+  is_final place leaf last l here same e = record {
     same = same;
-    final = λ f s b h.
-        let one = one_loop (whole t.program.now) place test f step s body b here h in
-        e ∙ (ap (λ u. final_leaf M t.options.now u (lap_of M t.options.now step body) (value leaf)) one.0
-        ∙ (ap (λ c. final_leaf M t.options.now f (lap_of M t.options.now c body) (value leaf)) one.1 ∙ ap (λ c. final_leaf M t.options.now f (lap_of M t.options.now s c) (value leaf)) one.2));
+    final = λ k h. e ∙ ap (λ i. final_leaf M t.options.now (lap_of M t.options.now i) (value leaf)) (one_loop (whole t.program.now) place l k here h);
   }
 
 -- a copy is over as many variables

@@ -1,432 +1,336 @@
--- Each run of a plain program is foreseen: by induction on the number of steps.
-use Rattle.std.proofs.Common.{◌≡◌, ℕ, zero, suc, ◌+◌, ◌<◌, ◌≤◌, ℤ, pos, Bool, true, false, if◌then◌else◌, List, [], ◌∷◌, ◌++◌, Option, Some, None, refl, ap, sym, ◌∙◌, subst, arith, inl, inr}
-use Rattle.std.specs.Prelude.{Result, Ok, Err, slice_get, slice_set}
-use Rattle.std.specs.List.{All, AllByRecursion, Contains}
-use Rattle.std.proofs.lemmas.Bool.{false≢true}
-use Rattle.std.proofs.lemmas.Int.{ints}
+-- Each run of a plain program is foreseen: by induction on the number of steps, in any loops that are entered.
+use Rattle.std.proofs.Common.{◌≡◌, ℕ, zero, suc, ◌+◌, ◌≤◌, ℤ, Bool, true, false, if◌then◌else◌, List, [], ◌++◌, refl, ap, sym, ◌∙◌, subst, arith, inl, inr, ◌⊎◌}
+use Rattle.std.specs.Prelude.{Ok, slice_get, slice_set}
+use Rattle.std.specs.List.{AllByRecursion}
 use Rattle.std.proofs.lemmas.List.Elements.{recursion_from_All}
 use Rattle.fam_outer.specs.declared.faults.Place.{Place}
-use Rattle.c_tree.specs.declared.tree.Kind.{Kind}
 use Rattle.c_tree.specs.declared.tree.Kind.TheVariants.{Assertion}
-use Rattle.c_tree.specs.declared.tree.Mode.{Mode}
-use Rattle.c_tree.specs.Tree.{Term, Code, Done, Assign, Input, Assert, If, While, Block, Skip, Cond, followed}
+use Rattle.c_tree.specs.Tree.{Term, Jump, Break, Continue, Return, Code, Done, Assign, Input, Assert, If, While, Do, Leave, Block, Skip, Cond, followed}
 use Rattle.c_tree.specs.Value.{value_of, is_zero, IsInt}
-use Rattle.c_tree.specs.Fit.{IsTermOf, IsCodeOf, IsPlain}
-use Rattle.c_tree.specs.Run.{Outcome, Moved, Stopped, with_value, with_input, step_of, cut_of, onward, steps_of, End}
+use Rattle.c_tree.specs.Fit.{IsTermOf, IsCodeOf}
+use Rattle.c_tree.specs.Run.{Level, standing, settled, left_by, Moved, Stopped, with_value, step_of, onward}
 use Rattle.c_tree.proofs.Views.{followed-Done}
-use Rattle.leaf_domain.specs.Leaves.{LeafValue, LeafMeaning, LeafLaws, Alike, IsLeafLike}
-use Rattle.leaf_domain.specs.Transfer.{assumed, assigned, forgotten}
-use Rattle.leaf_domain.specs.Stops.{may_at}
-use Rattle.leaf_domain.specs.Soundness.{Suits, TransferAnswers, TransferHolds}
-use Rattle.plain_analysis.specs.declared.alarm.Alarm.{Alarm}
-use Rattle.plain_analysis.specs.Statements.{Heads, Entry, passed, lap, head_by, entries_by}
-use Rattle.plain_analysis.specs.Promises.{IsForeseen, AreHeld}
-use Rattle.leaf_domain.proofs.Answered.{answers_then, answers_self}
-use Rattle.plain_analysis.proofs.JoinLemmas.{join_answer}
+use Rattle.leaf_domain.specs.Leaves.{LeafValue}
+use Rattle.leaf_domain.specs.Transfer.{assumed, assigned, valued, forgotten}
+use Rattle.leaf_domain.specs.Soundness.{Suits}
+use Rattle.plain_analysis.specs.Statements.{TestFirst, TestLast, chosen, entries_by}
+use Rattle.plain_analysis.specs.Ways.{Ways, onto, enter, joined, leave_by, end_of}
+use Rattle.plain_analysis.proofs.Kept.{IsLeaf, AreLeaves, Kept, suits, below, alike, join_leaf, joined_leaf, joined_first, joined_second, onto_leaves, assumed_leaf, assigned_leaf, valued_leaf, forgotten_leaf, leave_kept}
+use Rattle.plain_analysis.proofs.Fine.{Setting, Known, Seen, walk, pass, Fine, Exits, Next, Good, Sound, kept, less, finer, exits_less, exits_finer, none_made, made, at_place, cut_at, by_value, by_input, zero_from_test, nonzero_from_test, got_int, all_first, all_second}
+use Rattle.plain_analysis.proofs.LoopSteps.{loops_none, loops_some, inner_first, inner_last, loop_cuts, loop_steps}
 
-zero_from_test : (n : ℤ) → is_zero n ≡ true → n ≡ pos 0
-zero_from_test n e = grind (arith, ints)
+module _ (S : Setting) where
+  abbrev Leaf : LeafValue → Type 0
+  Leaf v = IsLeaf S.M S.count v
 
-nonzero_from_test : (n : ℤ) → is_zero n ≡ false → n ≡ pos 0 → ⊥
-nonzero_from_test n e z = absurd (false≢true (sym e ∙ ap is_zero z))
+  own : (e : Term) (v : LeafValue) → Leaf v → IsTermOf S.count e → Suits S.M e v
+  own e v i t = suits S.M S.laws S.count e v i t
 
-got_int : (xs : List ℤ) (k : ℕ) (n : ℤ) → AllByRecursion IsInt xs → slice_get xs k ≡ Some n → IsInt n
-got_int [] k n h e = cc
-got_int (x ∷ xs) zero n h e = let same : x ≡ n = cc in subst IsInt same h.0
-got_int (x ∷ xs) (suc k) n h e = got_int xs k n h.1 e
+  over : (c : Code) (v : LeafValue) → Leaf v → IsCodeOf S.count c → IsCodeOf v.variables c
+  over c v i t = subst (λ m. IsCodeOf m c) (sym i.count) t
 
-pub all_first : {X : Type 0} (P : X → Type 0) (xs ys : List X) → AllByRecursion P (xs ++ ys) → AllByRecursion P xs
-all_first P [] ys h = tt
-all_first P (x ∷ xs) ys h = (h.0, all_first P xs ys h.1)
+  cut_of_statement : (c : Code) (w : Ways) (k : Code) (ls : List Level) → Good S c w → Fine S 0 (standing k ls) (pass S c w).behind → Exits S 0 ls (pass S c w) → Fine S 0 (standing (followed c k) ls) w.behind
+  cut_of_statement Done w k ls g f x = f
+  cut_of_statement (Assign place x e rest) w k ls g f _ = none_made S _ ls w.behind (λ s taken. refl) (cut_at S _ _ g.known.0 (λ s. refl))
+  cut_of_statement (Input place x rest) w k ls g f _ = none_made S _ ls w.behind (λ s taken. refl) (cut_at S _ _ g.known.0 (λ s. refl))
+  cut_of_statement (Assert place e rest) w k ls g f _ = none_made S _ ls w.behind (λ s taken. refl) (cut_at S _ _ g.known.0 (λ s. refl))
+  cut_of_statement (If place e p q rest) w k ls g f _ = none_made S _ ls w.behind (λ s taken. refl) (cut_at S _ _ g.known.0 (λ s. refl))
+  cut_of_statement (While place e step body rest) w k ls g f _ = loop_cuts S place (TestFirst e step body) rest w (inner_first S place e step body rest w g) k ls
+  cut_of_statement (Do place body at e rest) w k ls g f _ = loop_cuts S place (TestLast body at e) rest w (inner_last S place body at e rest w g) k ls
+  cut_of_statement (Leave place jump rest) w k ls g f _ = none_made S _ ls w.behind (λ s taken. refl) (cut_at S _ _ g.known.0 (λ s. refl))
+  cut_of_statement (Block place body rest) w k ls g f _ = none_made S _ ls w.behind (λ s taken. refl) (cut_at S _ _ g.known.0 (λ s. refl))
+  cut_of_statement (Skip place rest) w k ls g f _ = none_made S _ ls w.behind (λ s taken. refl) (cut_at S _ _ g.known.0 (λ s. refl))
+  cut_of_statement (Cond number p q rest) w k ls g f _ = absurd g.plain
 
-pub all_second : {X : Type 0} (P : X → Type 0) (xs ys : List X) → AllByRecursion P (xs ++ ys) → AllByRecursion P ys
-all_second P [] ys h = h
-all_second P (x ∷ xs) ys h = all_second P xs ys h.1
-
-module _ (M : LeafMeaning) (laws : LeafLaws M) (mode : Mode) (H : Heads) (A : TransferAnswers M mode) (T : TransferHolds M mode) (inputs : List ℤ) (ints_given : All IsInt inputs) (at : Place → LeafValue) (end : Place) (alarms : List Alarm) where
-  -- the leaf at the entry's place is its own, and its stops are among the alarms
-  pub record Known (e : Entry) : Type 0 where
-    pub leaf : at e.place ≡ e.leaf
-    pub stops : (kind : Kind) → may_at M mode kind e.statement e.leaf ≡ true → Contains alarms (record { place = e.place; kind = kind })
-
-  abbrev steps : ℕ → Code → List ℤ → ℕ → End
-  steps m c s taken = steps_of mode inputs m (record { todo = c; store = s; taken = taken })
-
-  -- from each store of the leaf, what at most n steps of the statements come to
-  record Fine (n : ℕ) (c : Code) (v : LeafValue) : Type 0 where
-    run : (m : ℕ) (s : List ℤ) (taken : ℕ) → m ≤ n → M.holds v s → IsForeseen M at end alarms (steps_of mode inputs m (record { todo = c; store = s; taken = taken }))
-
-  less : (n m : ℕ) (c : Code) (v : LeafValue) → m ≤ n → Fine n c v → Fine m c v
-  less n m c v l f = record { run = λ i s taken k h. f.run i s taken (omega arith) h }
-
-  finer : (n : ℕ) (c : Code) (v w : LeafValue) → ((s : List ℤ) → M.holds w s → M.holds v s) → Fine n c v → Fine n c w
-  finer n c v w g f = record { run = λ i s taken k h. f.run i s taken k (g s h) }
-
-  -- no step
-  record Cut (c : Code) (v : LeafValue) : Type 0 where
-    cut : (s : List ℤ) → M.holds v s → IsForeseen M at end alarms (cut_of c s)
-
-  -- one step, and then at most n
-  record Next (n : ℕ) (c : Code) (v : LeafValue) : Type 0 where
-    next : (m : ℕ) (s : List ℤ) (taken : ℕ) → m ≤ n → M.holds v s → IsForeseen M at end alarms (onward (step_of mode inputs c s taken) s (steps_of mode inputs m))
-
-  none_made : (c : Code) (v : LeafValue) → Cut c v → Fine 0 c v
-  none_made c v h = record { run = by_count }
-    where
-      by_count : (m : ℕ) (s : List ℤ) (taken : ℕ) → m ≤ 0 → M.holds v s → IsForeseen M at end alarms (steps_of mode inputs m (record { todo = c; store = s; taken = taken }))
-      by_count zero s taken l k = h.cut s k
-      by_count (suc m) s taken l k = absurd (omega arith)
-
-  made : (n : ℕ) (c : Code) (v : LeafValue) → Cut c v → Next n c v → Fine (suc n) c v
-  made n c v h f = record { run = by_count }
-    where
-      by_count : (m : ℕ) (s : List ℤ) (taken : ℕ) → m ≤ suc n → M.holds v s → IsForeseen M at end alarms (steps_of mode inputs m (record { todo = c; store = s; taken = taken }))
-      by_count zero s taken l k = h.cut s k
-      by_count (suc m) s taken l k = f.next m s taken (omega arith) k
-
-  -- a place's leaf has each store of its entry's
-  at_place : (e : Entry) (s : List ℤ) → Known e → M.holds e.leaf s → M.holds (at e.place) s
-  at_place e s h k = subst (λ v. M.holds v s) (sym h.leaf) k
-
-  -- goes on by a value, or stops
-  by_value : (r : Result ℤ Kind) (place : Place) (go : ℤ → Outcome) (s : List ℤ) (m : ℕ)
-      → ((n : ℤ) → r ≡ Ok n → IsForeseen M at end alarms (onward (go n) s (steps_of mode inputs m)))
-      → ((kind : Kind) → r ≡ Err kind → Contains alarms (record { place = place; kind = kind }))
-      → IsForeseen M at end alarms (onward (with_value place r go) s (steps_of mode inputs m))
-  by_value (Ok n) place go s m f g = f n refl
-  by_value (Err kind) place go s m f g = g kind refl
-
-  by_input : (r : Option ℤ) (place : Place) (go : ℤ → Outcome) (s : List ℤ) (m : ℕ)
-      → ((n : ℤ) → r ≡ Some n → IsForeseen M at end alarms (onward (go n) s (steps_of mode inputs m)))
-      → M.holds (at place) s
-      → IsForeseen M at end alarms (onward (with_input place r go) s (steps_of mode inputs m))
-  by_input (Some n) place go s m f h = f n refl
-  by_input None place go s m f h = h
-
-  -- what is known of statements that are entered with a leaf
-  record Good (c : Code) (v : LeafValue) : Type 0 where
-    valid : M.valid v
-    names : IsCodeOf v.variables c
-    plain : IsPlain c
-    known : AllByRecursion Known (entries_by M mode H c v)
-    held : AreHeld M mode H c v
-
-  good_after : (c : Code) (v w : LeafValue) → IsLeafLike M v w → IsCodeOf v.variables c → IsPlain c → AllByRecursion Known (entries_by M mode H c w) → AreHeld M mode H c w → Good c w
-  good_after c v w a n p k d = record { valid = a.valid; names = subst (λ m. IsCodeOf m c) (sym a.same) n; plain = p; known = k; held = d }
-
-  suits_own : (e : Term) (v : LeafValue) → M.valid v → IsTermOf v.variables e → Suits M e v
-  suits_own e v h t = record { valid = h; term = t }
-
-  over_other : (c : Code) (v w : LeafValue) → IsLeafLike M v w → IsCodeOf v.variables c → IsCodeOf w.variables c
-  over_other c v w a n = subst (λ m. IsCodeOf m c) (sym a.same) n
-
-  -- a pass keeps leaves of the kind
-  passed_answers : (c : Code) (v : LeafValue) → M.valid v → IsCodeOf v.variables c → IsPlain c → AreHeld M mode H c v → IsLeafLike M v (passed M mode H c v)
-  passed_answers Done v h n p d = answers_self v h
-  passed_answers (Assign place x e rest) v h n p d =
-      let w = assigned M mode x e v in
-      let a = A.assigned_answers x e v n.0 (suits_own e v h n.1) in
-      answers_then v w _ a (passed_answers rest w a.valid (over_other rest v w a n.2) p d)
-  passed_answers (Input place x rest) v h n p d =
-      let w = forgotten M x v in
-      let a = A.forgotten_answers x v n.0 h in
-      answers_then v w _ a (passed_answers rest w a.valid (over_other rest v w a n.1) p d)
-  passed_answers (Assert place e rest) v h n p d =
-      let w = assumed M mode e true v in
-      let a = A.assumed_answers e true v (suits_own e v h n.0) in
-      answers_then v w _ a (passed_answers rest w a.valid (over_other rest v w a n.1) p d)
-  passed_answers (If place e p q rest) v h n l d =
-      let yes = assumed M mode e true v in
-      let no = assumed M mode e false v in
-      let t = A.assumed_answers e true v (suits_own e v h n.0) in
-      let f = A.assumed_answers e false v (suits_own e v h n.0) in
-      let a = answers_then v yes _ t (passed_answers p yes t.valid (over_other p v yes t n.1) l.0 d.0) in
-      let b = answers_then v no _ f (passed_answers q no f.valid (over_other q v no f n.2) l.1 d.1) in
-      let w = M.join (passed M mode H p yes) (passed M mode H q no) in
-      let j = join_answer M laws v (passed M mode H p yes) (passed M mode H q no) a b in
-      answers_then v w _ j (passed_answers rest w j.valid (over_other rest v w j n.3) l.2 d.2)
-  passed_answers (While place e step body rest) v h n p d =
-      let x = head_by M mode H place e step body v in
-      let i = d.0.answers in
-      let w = assumed M mode e false x in
-      let a = answers_then v x w i (A.assumed_answers e false x (suits_own e x i.valid (subst (λ m. IsTermOf m e) (sym i.same) n.0))) in
-      answers_then v w _ a (passed_answers rest w a.valid (over_other rest v w a n.3) p.2 d.3)
-  passed_answers (Block place body rest) v h n p d =
-      let w = passed M mode H body v in
-      let a = passed_answers body v h n.0 p.0 d.0 in
-      answers_then v w _ a (passed_answers rest w a.valid (over_other rest v w a n.1) p.1 d.1)
-  passed_answers (Skip place rest) v h n p d = passed_answers rest v h n p d
-  passed_answers (Cond number p q rest) v h n l d = absurd l
-
-  good_answers : (c : Code) (v : LeafValue) → Good c v → IsLeafLike M v (passed M mode H c v)
-  good_answers c v g = passed_answers c v g.valid g.names g.plain g.held
-
-  -- what is known of a loop at its final leaf x
-  record GoodLoop (place : Place) (e : Term) (step body : Code) (x : LeafValue) : Type 0 where
-    valid : M.valid x
-    names : IsCodeOf x.variables (While place e step body Done)
-    known : Known (record { place = place; statement = While place e step body Done; leaf = x })
-    inside : Good body (assumed M mode e true x)
-    stepping : Good step (passed M mode H body (assumed M mode e true x))
-    again : (s : List ℤ) → M.holds (lap M mode H step body (assumed M mode e true x)) s → M.holds x s
-
-  record Sound (n : ℕ) : Type 0 where
-    -- statements before others
-    statements : (c : Code) (v : LeafValue) (k : Code) → Good c v → Fine n k (passed M mode H c v) → Fine n (followed c k) v
-    -- a loop at its final leaf, before others
-    loops : (place : Place) (e : Term) (step body k : Code) (x : LeafValue) → GoodLoop place e step body x → ((m : ℕ) → m < n → Fine m k (assumed M mode e false x)) → Fine n (While place e step body k) x
-
-  loop_cut : (place : Place) (e : Term) (step body k : Code) (x : LeafValue) → GoodLoop place e step body x → Cut (While place e step body k) x
-  loop_cut place e step body k x g = record { cut = λ s h. at_place (record { place = place; statement = While place e step body Done; leaf = x }) s g.known h }
-
-  loop_next : (n : ℕ) (place : Place) (e : Term) (step body k : Code) (x : LeafValue) → Sound n → GoodLoop place e step body x → ((m : ℕ) → m < suc n → Fine m k (assumed M mode e false x)) → Next n (While place e step body k) x
-  loop_next n place e step body k x S g f = record { next = one }
-    where
-      own : Suits M e x
-      own = suits_own e x g.valid g.names.0
-
-      -- the step, from behind the body, and the loop again
-      stepping : Fine n (followed step (While place e step body k)) (passed M mode H body (assumed M mode e true x))
-      stepping = S.statements step (passed M mode H body (assumed M mode e true x)) (While place e step body k) g.stepping
-          (finer n (While place e step body k) x (lap M mode H step body (assumed M mode e true x)) g.again (S.loops place e step body k x g (λ m l. f m (omega arith))))
-
-      inside : Fine n (followed body (followed step (While place e step body k))) (assumed M mode e true x)
-      inside = S.statements body (assumed M mode e true x) (followed step (While place e step body k)) g.inside stepping
-
-      one : (m : ℕ) (s : List ℤ) (taken : ℕ) → m ≤ n → M.holds x s → IsForeseen M at end alarms (onward (step_of mode inputs (While place e step body k) s taken) s (steps_of mode inputs m))
-      one m s taken l h =
-          by_value (value_of e s mode) place (λ i. Moved (record { todo = if is_zero i then k else followed body (followed step (While place e step body k)); store = s; taken = taken })) s m
-          (λ i w. by_test i w (is_zero i) refl)
-          (λ kind w. g.known.stops kind (T.may_holds (While place e step body Done) x s inputs taken place kind g.valid g.names h
-          (ap (λ r. with_value place r (λ i. Moved (record { todo = if is_zero i then Done else followed body (followed step (While place e step body Done)); store = s; taken = taken }))) w)))
-        where
-          by_test : (i : ℤ) → value_of e s mode ≡ Ok i → (b : Bool) → is_zero i ≡ b
-              → IsForeseen M at end alarms (steps_of mode inputs m (record { todo = if b then k else followed body (followed step (While place e step body k)); store = s; taken = taken }))
-          by_test i w true z = (f n (omega arith)).run m s taken l (T.assumed_holds e false x s i own h w (zero_from_test i z))
-          by_test i w false z = inside.run m s taken l (T.assumed_holds e true x s i own h w (nonzero_from_test i z))
-
-  -- a loop is entered with its final leaf
-  module _ (place : Place) (e : Term) (step body rest : Code) (v : LeafValue) (g : Good (While place e step body rest) v) where
-    abbrev head : LeafValue
-    head = head_by M mode H place e step body v
-
-    abbrev in_body : LeafValue
-    in_body = assumed M mode e true head
-
-    abbrev in_step : LeafValue
-    in_step = passed M mode H body in_body
-
-    abbrev out : LeafValue
-    out = assumed M mode e false head
-
-    head_like : IsLeafLike M v head
-    head_like = g.held.0.answers
-
-    over_head : Suits M e head
-    over_head = suits_own e head head_like.valid (subst (λ m. IsTermOf m e) (sym head_like.same) g.names.0)
-
-    in_loop : AllByRecursion Known (entries_by M mode H body in_body ++ entries_by M mode H rest out)
-    in_loop = all_second Known (entries_by M mode H step in_step) (entries_by M mode H body in_body ++ entries_by M mode H rest out) g.known.1
-
-    body_like : IsLeafLike M v in_body
-    body_like = answers_then v head in_body head_like (A.assumed_answers e true head over_head)
-
-    body_good : Good body in_body
-    body_good = good_after body v in_body body_like g.names.2 g.plain.1 (all_first Known (entries_by M mode H body in_body) (entries_by M mode H rest out) in_loop) g.held.2
-
-    step_good : Good step in_step
-    step_good = good_after step v in_step (answers_then v in_body in_step body_like (good_answers body in_body body_good)) g.names.1 g.plain.0
-        (all_first Known (entries_by M mode H step in_step) (entries_by M mode H body in_body ++ entries_by M mode H rest out) g.known.1) g.held.1
-
-    good_loop : GoodLoop place e step body head
-    good_loop = record {
-      valid = head_like.valid;
-      names = over_other (While place e step body Done) v head head_like (g.names.0, g.names.1, g.names.2, tt);
-      known = g.known.0;
-      inside = body_good;
-      stepping = step_good;
-      again = g.held.0.again;
-    }
-
-    after_loop : Good rest out
-    after_loop = good_after rest v out (answers_then v head out head_like (A.assumed_answers e false head over_head)) g.names.3 g.plain.2
-        (all_second Known (entries_by M mode H body in_body) (entries_by M mode H rest out) in_loop) g.held.3
-
-  -- ---- the cuts of statements
-
-  cut_of_statement : (c : Code) (v : LeafValue) (k : Code) → Good c v → Fine 0 k (passed M mode H c v) → Fine 0 (followed c k) v
-  cut_of_statement Done v k g f = f
-  cut_of_statement (Assign place x e rest) v k g f = none_made _ v (record { cut = λ s h. at_place (record { place = place; statement = Assign place x e Done; leaf = v }) s g.known.0 h })
-  cut_of_statement (Input place x rest) v k g f = none_made _ v (record { cut = λ s h. at_place (record { place = place; statement = Input place x Done; leaf = v }) s g.known.0 h })
-  cut_of_statement (Assert place e rest) v k g f = none_made _ v (record { cut = λ s h. at_place (record { place = place; statement = Assert place e Done; leaf = v }) s g.known.0 h })
-  cut_of_statement (If place e p q rest) v k g f = none_made _ v (record { cut = λ s h. at_place (record { place = place; statement = If place e p q Done; leaf = v }) s g.known.0 h })
-  cut_of_statement (While place e step body rest) v k g f =
-      let x = head_by M mode H place e step body v in
-      finer 0 (While place e step body (followed rest k)) x v g.held.0.entered (none_made _ _ (loop_cut place e step body (followed rest k) x (good_loop place e step body rest v g)))
-  cut_of_statement (Block place body rest) v k g f = none_made _ v (record { cut = λ s h. at_place (record { place = place; statement = Block place body Done; leaf = v }) s g.known.0 h })
-  cut_of_statement (Skip place rest) v k g f = none_made _ v (record { cut = λ s h. at_place (record { place = place; statement = Skip place Done; leaf = v }) s g.known.0 h })
-  cut_of_statement (Cond number p q rest) v k g f = absurd g.plain
-
-  -- ---- the first steps of statements
-
-  module _ (n : ℕ) (S : Sound n) (L : (place : Place) (e : Term) (step body k : Code) (x : LeafValue) → GoodLoop place e step body x → ((m : ℕ) → m < suc n → Fine m k (assumed M mode e false x)) → Fine (suc n) (While place e step body k) x) where
+  module _ (n : ℕ) (I : Sound S n) (k : Code) (ls : List Level) where
     -- the statements after the first
-    behind : (c : Code) (v w : LeafValue) (k : Code) → IsLeafLike M v w → IsCodeOf v.variables c → IsPlain c → AllByRecursion Known (entries_by M mode H c w) → AreHeld M mode H c w → Fine (suc n) k (passed M mode H c w) → Fine n (followed c k) w
-    behind c v w k a names plain known held f = S.statements c w k (good_after c v w a names plain known held) (less (suc n) n k (passed M mode H c w) (omega arith) f)
+    behind : (c : Code) (w : Ways) → Good S c w → Fine S (suc n) (standing k ls) (pass S c w).behind → Exits S (suc n) ls (pass S c w) → Fine S n (standing (followed c k) ls) w.behind
+    behind c w g f x = I.statements c w k ls g (less S (suc n) n (standing k ls) (pass S c w).behind (omega arith) f) (exits_less S (suc n) n ls (pass S c w) (omega arith) x)
 
-    assign_next : (place : Place) (x : ℕ) (e : Term) (rest : Code) (v : LeafValue) (k : Code) → Good (Assign place x e rest) v → Fine (suc n) k (passed M mode H (Assign place x e rest) v) → Next n (followed (Assign place x e rest) k) v
-    assign_next place x e rest v k g f =
-        let a = A.assigned_answers x e v g.names.0 (suits_own e v g.valid g.names.1) in
-        let b = behind rest v (assigned M mode x e v) k a g.names.2 g.plain g.known.1 g.held f in
+    assign_next : (place : Place) (x : ℕ) (e : Term) (rest : Code) (w : Ways) → Good S (Assign place x e rest) w → Fine S (suc n) (standing k ls) (pass S (Assign place x e rest) w).behind → Exits S (suc n) ls (pass S (Assign place x e rest) w)
+        → Next S n (followed (Assign place x e rest) k) ls w.behind
+    assign_next place x e rest w g f exits =
+        let v = w.behind in
+        let t = own e v g.leaves.behind g.names.1 in
+        let l = below S.M S.laws S.count x v g.leaves.behind g.names.0 in
+        let u = onto w (assigned S.M S.mode x e v) in
+        let b = behind rest u (record {
+          leaves = onto_leaves S.M S.laws S.count w _ g.leaves (assigned_leaf S.M S.laws S.mode S.A S.count x e v g.leaves.behind g.names.0 g.names.1);
+          names = g.names.2;
+          plain = g.plain;
+          known = g.known.1;
+          held = g.held;
+        }) f exits in
         record {
-          next = λ m s taken l h. by_value (value_of e s mode) place (λ i. Moved (record { todo = followed rest k; store = slice_set s x i; taken = taken })) s m
-              (λ i w. b.run m (slice_set s x i) taken l (T.assigned_holds x e v s i g.names.0 (suits_own e v g.valid g.names.1) h w))
-              (λ kind w. g.known.0.stops kind (T.may_holds (Assign place x e Done) v s inputs taken place kind g.valid (g.names.0, g.names.1, tt) h
-              (ap (λ r. with_value place r (λ i. Moved (record { todo = Done; store = slice_set s x i; taken = taken }))) w)));
+          next = λ m s taken i h. by_value S (value_of e s S.mode) place (λ j. Moved (standing (followed rest k) ls (slice_set s x j) taken)) s m
+              (λ j q. b.run m (slice_set s x j) taken i (S.T.assigned_holds x e v s j l t h q))
+              (λ kind q. g.known.0.stops kind (S.T.may_holds (Assign place x e Done) v ls s S.inputs taken place kind g.leaves.behind.valid (l, t.term, tt) h
+              (ap (λ r. with_value place r (λ j. Moved (standing Done ls (slice_set s x j) taken))) q)));
         }
 
-    input_next : (place : Place) (x : ℕ) (rest : Code) (v : LeafValue) (k : Code) → Good (Input place x rest) v → Fine (suc n) k (passed M mode H (Input place x rest) v) → Next n (followed (Input place x rest) k) v
-    input_next place x rest v k g f =
-        let a = A.forgotten_answers x v g.names.0 g.valid in
-        let b = behind rest v (forgotten M x v) k a g.names.1 g.plain g.known.1 g.held f in
+    input_next : (place : Place) (x : ℕ) (rest : Code) (w : Ways) → Good S (Input place x rest) w → Fine S (suc n) (standing k ls) (pass S (Input place x rest) w).behind → Exits S (suc n) ls (pass S (Input place x rest) w)
+        → Next S n (followed (Input place x rest) k) ls w.behind
+    input_next place x rest w g f exits =
+        let v = w.behind in
+        let l = below S.M S.laws S.count x v g.leaves.behind g.names.0 in
+        let u = onto w (forgotten S.M x v) in
+        let b = behind rest u (record {
+          leaves = onto_leaves S.M S.laws S.count w _ g.leaves (forgotten_leaf S.M S.laws S.mode S.A S.count x v g.leaves.behind g.names.0);
+          names = g.names.1;
+          plain = g.plain;
+          known = g.known.1;
+          held = g.held;
+        }) f exits in
         record {
-          next = λ m s taken l h. by_input (slice_get inputs taken) place (λ i. Moved (record { todo = followed rest k; store = slice_set s x i; taken = taken + 1 })) s m
-              (λ i w. b.run m (slice_set s x i) (taken + 1) l (T.forgotten_holds x v s i g.names.0 g.valid h (got_int inputs taken i (recursion_from_All IsInt inputs ints_given) w)))
-              (at_place (record { place = place; statement = Input place x Done; leaf = v }) s g.known.0 h);
+          next = λ m s taken i h. by_input S (slice_get S.inputs taken) place (λ j. Moved (standing (followed rest k) ls (slice_set s x j) (taken + 1))) s m
+              (λ j q. b.run m (slice_set s x j) (taken + 1) i (S.T.forgotten_holds x v s j l g.leaves.behind.valid h (got_int S.inputs taken j (recursion_from_All IsInt S.inputs S.ints) q)))
+              (at_place S _ s g.known.0 h);
         }
 
-    assert_next : (place : Place) (e : Term) (rest : Code) (v : LeafValue) (k : Code) → Good (Assert place e rest) v → Fine (suc n) k (passed M mode H (Assert place e rest) v) → Next n (followed (Assert place e rest) k) v
-    assert_next place e rest v k g f = record { next = one }
+    assert_next : (place : Place) (e : Term) (rest : Code) (w : Ways) → Good S (Assert place e rest) w → Fine S (suc n) (standing k ls) (pass S (Assert place e rest) w).behind → Exits S (suc n) ls (pass S (Assert place e rest) w)
+        → Next S n (followed (Assert place e rest) k) ls w.behind
+    assert_next place e rest w g f exits = record { next = one }
       where
-        b : Fine n (followed rest k) (assumed M mode e true v)
-        b = behind rest v (assumed M mode e true v) k (A.assumed_answers e true v (suits_own e v g.valid g.names.0)) g.names.1 g.plain g.known.1 g.held f
+        t : Suits S.M e w.behind
+        t = own e w.behind g.leaves.behind g.names.0
 
-        one : (m : ℕ) (s : List ℤ) (taken : ℕ) → m ≤ n → M.holds v s → IsForeseen M at end alarms (onward (step_of mode inputs (followed (Assert place e rest) k) s taken) s (steps_of mode inputs m))
-        one m s taken l h =
-            by_value (value_of e s mode) place (λ i. if is_zero i then Stopped place Assertion else Moved (record { todo = followed rest k; store = s; taken = taken })) s m
-            (λ i w. by_test i w (is_zero i) refl)
-            (λ kind w. g.known.0.stops kind (T.may_holds (Assert place e Done) v s inputs taken place kind g.valid (g.names.0, tt) h
-            (ap (λ r. with_value place r (λ i. if is_zero i then Stopped place Assertion else Moved (record { todo = Done; store = s; taken = taken }))) w)))
+        b : Fine S n (standing (followed rest k) ls) (assumed S.M S.mode e true w.behind)
+        b = behind rest (onto w (assumed S.M S.mode e true w.behind)) (record {
+          leaves = onto_leaves S.M S.laws S.count w _ g.leaves (assumed_leaf S.M S.laws S.mode S.A S.count e true w.behind g.leaves.behind g.names.0);
+          names = g.names.1;
+          plain = g.plain;
+          known = g.known.1;
+          held = g.held;
+        }) f exits
+
+        one : (m : ℕ) (s : List ℤ) (taken : ℕ) → m ≤ n → S.M.holds w.behind s → Seen S (onward (step_of S.mode S.inputs (followed (Assert place e rest) k) ls s taken) s (walk S m))
+        one m s taken i h =
+            by_value S (value_of e s S.mode) place (λ j. if is_zero j then Stopped place Assertion else Moved (standing (followed rest k) ls s taken)) s m
+            (λ j q. by_test j q (is_zero j) refl)
+            (λ kind q. g.known.0.stops kind (S.T.may_holds (Assert place e Done) w.behind ls s S.inputs taken place kind g.leaves.behind.valid (t.term, tt) h
+            (ap (λ r. with_value place r (λ j. if is_zero j then Stopped place Assertion else Moved (standing Done ls s taken))) q)))
           where
-            by_test : (i : ℤ) → value_of e s mode ≡ Ok i → (t : Bool) → is_zero i ≡ t
-                → IsForeseen M at end alarms (onward (if t then Stopped place Assertion else Moved (record { todo = followed rest k; store = s; taken = taken })) s (steps_of mode inputs m))
-            by_test i w true z = g.known.0.stops Assertion (T.may_holds (Assert place e Done) v s inputs taken place Assertion g.valid (g.names.0, tt) h
-                (ap (λ r. with_value place r (λ j. if is_zero j then Stopped place Assertion else Moved (record { todo = Done; store = s; taken = taken }))) w
-                ∙ ap (λ t. if t then Stopped place Assertion else Moved (record { todo = Done; store = s; taken = taken })) z))
-            by_test i w false z = b.run m s taken l (T.assumed_holds e true v s i (suits_own e v g.valid g.names.0) h w (nonzero_from_test i z))
+            by_test : (j : ℤ) → value_of e s S.mode ≡ Ok j → (b : Bool) → is_zero j ≡ b
+                → Seen S (onward (if b then Stopped place Assertion else Moved (standing (followed rest k) ls s taken)) s (walk S m))
+            by_test j q true z = g.known.0.stops Assertion (S.T.may_holds (Assert place e Done) w.behind ls s S.inputs taken place Assertion g.leaves.behind.valid (t.term, tt) h
+                (ap (λ r. with_value place r (λ j. if is_zero j then Stopped place Assertion else Moved (standing Done ls s taken))) q
+                ∙ ap (λ b. if b then Stopped place Assertion else Moved (standing Done ls s taken)) z))
+            by_test j q false z = b.run m s taken i (S.T.assumed_holds e true w.behind s j t h q (nonzero_from_test j z))
 
-    module _ (place : Place) (e : Term) (p q rest : Code) (v : LeafValue) (k : Code) (g : Good (If place e p q rest) v) (f : Fine (suc n) k (passed M mode H (If place e p q rest) v)) where
-      own : Suits M e v
-      own = suits_own e v g.valid g.names.0
+    module _ (place : Place) (e : Term) (p q rest : Code) (w : Ways) (g : Good S (If place e p q rest) w) (f : Fine S (suc n) (standing k ls) (pass S (If place e p q rest) w).behind) (exits : Exits S (suc n) ls (pass S (If place e p q rest) w)) where
+      abbrev yes_in : Ways
+      yes_in = onto w (assumed S.M S.mode e true w.behind)
 
-      abbrev yes_in : LeafValue
-      yes_in = assumed M mode e true v
+      abbrev yes_out : Ways
+      yes_out = pass S p yes_in
 
-      abbrev no_in : LeafValue
-      no_in = assumed M mode e false v
+      abbrev no_in : Ways
+      no_in = onto yes_out (assumed S.M S.mode e false w.behind)
 
-      abbrev both : LeafValue
-      both = M.join (passed M mode H p yes_in) (passed M mode H q no_in)
+      abbrev no_out : Ways
+      no_out = pass S q no_in
 
-      yes_good : Good p yes_in
-      yes_good = good_after p v yes_in (A.assumed_answers e true v own) g.names.1 g.plain.0
-          (all_first Known (entries_by M mode H p yes_in) (entries_by M mode H q no_in ++ entries_by M mode H rest both) g.known.1) g.held.0
+      abbrev both : Ways
+      both = chosen S.M S.mode S.H e p q w
 
-      others : AllByRecursion Known (entries_by M mode H q no_in ++ entries_by M mode H rest both)
-      others = all_second Known (entries_by M mode H p yes_in) (entries_by M mode H q no_in ++ entries_by M mode H rest both) g.known.1
+      if_own : Suits S.M e w.behind
+      if_own = own e w.behind g.leaves.behind g.names.0
 
-      no_good : Good q no_in
-      no_good = good_after q v no_in (A.assumed_answers e false v own) g.names.2 g.plain.1 (all_first Known (entries_by M mode H q no_in) (entries_by M mode H rest both) others) g.held.1
+      yes_good : Good S p yes_in
+      yes_good = record {
+        leaves = onto_leaves S.M S.laws S.count w _ g.leaves (assumed_leaf S.M S.laws S.mode S.A S.count e true w.behind g.leaves.behind g.names.0);
+        names = g.names.1;
+        plain = g.plain.0;
+        known = all_first (Known S) _ _ g.known.1;
+        held = g.held.0;
+      }
 
-      yes_out : IsLeafLike M v (passed M mode H p yes_in)
-      yes_out = answers_then v yes_in (passed M mode H p yes_in) (A.assumed_answers e true v own) (good_answers p yes_in yes_good)
+      yes_kept : Kept S.M S.count yes_in yes_out
+      yes_kept = kept S p yes_in yes_good
 
-      no_out : IsLeafLike M v (passed M mode H q no_in)
-      no_out = answers_then v no_in (passed M mode H q no_in) (A.assumed_answers e false v own) (good_answers q no_in no_good)
+      others : AllByRecursion (Known S) (entries_by S.M S.mode S.H q no_in ++ entries_by S.M S.mode S.H rest both)
+      others = all_second (Known S) (entries_by S.M S.mode S.H p yes_in) _ g.known.1
 
-      alike : Alike M (passed M mode H p yes_in) (passed M mode H q no_in)
-      alike = record { first = yes_out.valid; second = no_out.valid; same = yes_out.same ∙ sym no_out.same }
+      no_good : Good S q no_in
+      no_good = record {
+        leaves = onto_leaves S.M S.laws S.count yes_out _ yes_kept.leaves (assumed_leaf S.M S.laws S.mode S.A S.count e false w.behind g.leaves.behind g.names.0);
+        names = g.names.2;
+        plain = g.plain.1;
+        known = all_first (Known S) _ _ others;
+        held = g.held.1;
+      }
 
-      joined : Fine n (followed rest k) both
-      joined = behind rest v both k (join_answer M laws v (passed M mode H p yes_in) (passed M mode H q no_in) yes_out no_out) g.names.3 g.plain.2
-          (all_second Known (entries_by M mode H q no_in) (entries_by M mode H rest both) others) g.held.2 f
+      no_kept : Kept S.M S.count no_in no_out
+      no_kept = kept S q no_in no_good
 
-      yes_fine : Fine n (followed p (followed rest k)) yes_in
-      yes_fine = S.statements p yes_in (followed rest k) yes_good
-          (finer n (followed rest k) both (passed M mode H p yes_in) (λ s h. laws.join_holds (passed M mode H p yes_in) (passed M mode H q no_in) s alike (inl h)) joined)
+      both_good : Good S rest both
+      both_good = record {
+        leaves = onto_leaves S.M S.laws S.count no_out _ no_kept.leaves (join_leaf S.M S.laws S.count yes_out.behind no_out.behind yes_kept.leaves.behind no_kept.leaves.behind);
+        names = g.names.3;
+        plain = g.plain.2;
+        known = all_second (Known S) _ _ others;
+        held = g.held.2;
+      }
 
-      no_fine : Fine n (followed q (followed rest k)) no_in
-      no_fine = S.statements q no_in (followed rest k) no_good
-          (finer n (followed rest k) both (passed M mode H q no_in) (λ s h. laws.join_holds (passed M mode H p yes_in) (passed M mode H q no_in) s alike (inr h)) joined)
+      no_exits : Exits S n ls no_out
+      no_exits =
+          let i = (kept S rest both both_good).grows in
+          exits_finer S n ls no_out (pass S rest both) (record { broke = i.broke; continued = i.continued; returned = i.returned }) (exits_less S (suc n) n ls _ (omega arith) exits)
 
-      one : (m : ℕ) (s : List ℤ) (taken : ℕ) → m ≤ n → M.holds v s → IsForeseen M at end alarms (onward (step_of mode inputs (followed (If place e p q rest) k) s taken) s (steps_of mode inputs m))
-      one m s taken l h =
-          by_value (value_of e s mode) place (λ i. Moved (record { todo = followed (if is_zero i then q else p) (followed rest k); store = s; taken = taken })) s m
-          (λ i w. by_test i w (is_zero i) refl)
-          (λ kind w. g.known.0.stops kind (T.may_holds (If place e p q Done) v s inputs taken place kind g.valid (g.names.0, g.names.1, g.names.2, tt) h
-          (ap (λ r. with_value place r (λ i. Moved (record { todo = followed (if is_zero i then q else p) Done; store = s; taken = taken }))) w)))
+      yes_exits : Exits S n ls yes_out
+      yes_exits = let i = no_kept.grows in exits_finer S n ls yes_out no_out (record { broke = i.broke; continued = i.continued; returned = i.returned }) no_exits
+
+      both_fine : Fine S n (standing (followed rest k) ls) both.behind
+      both_fine = behind rest both both_good f exits
+
+      either : (s : List ℤ) → (S.M.holds yes_out.behind s ⊎ S.M.holds no_out.behind s) → S.M.holds both.behind s
+      either s h = S.laws.join_holds yes_out.behind no_out.behind s (alike S.M S.laws S.count yes_out.behind no_out.behind yes_kept.leaves.behind no_kept.leaves.behind) h
+
+      yes_fine : Fine S n (standing (followed p (followed rest k)) ls) (assumed S.M S.mode e true w.behind)
+      yes_fine = I.statements p yes_in (followed rest k) ls yes_good (finer S n _ both.behind yes_out.behind (λ s h. either s (inl h)) both_fine) yes_exits
+
+      no_fine : Fine S n (standing (followed q (followed rest k)) ls) (assumed S.M S.mode e false w.behind)
+      no_fine = I.statements q no_in (followed rest k) ls no_good (finer S n _ both.behind no_out.behind (λ s h. either s (inr h)) both_fine) no_exits
+
+      one : (m : ℕ) (s : List ℤ) (taken : ℕ) → m ≤ n → S.M.holds w.behind s → Seen S (onward (step_of S.mode S.inputs (followed (If place e p q rest) k) ls s taken) s (walk S m))
+      one m s taken i h =
+          by_value S (value_of e s S.mode) place (λ j. Moved (standing (followed (if is_zero j then q else p) (followed rest k)) ls s taken)) s m
+          (λ j u. by_test j u (is_zero j) refl)
+          (λ kind u. g.known.0.stops kind (S.T.may_holds (If place e p q Done) w.behind ls s S.inputs taken place kind g.leaves.behind.valid
+          (if_own.term, over p w.behind g.leaves.behind g.names.1, over q w.behind g.leaves.behind g.names.2, tt) h
+          (ap (λ r. with_value place r (λ j. Moved (standing (followed (if is_zero j then q else p) Done) ls s taken))) u)))
         where
-          by_test : (i : ℤ) → value_of e s mode ≡ Ok i → (t : Bool) → is_zero i ≡ t
-              → IsForeseen M at end alarms (steps_of mode inputs m (record { todo = followed (if t then q else p) (followed rest k); store = s; taken = taken }))
-          by_test i w true z = no_fine.run m s taken l (T.assumed_holds e false v s i own h w (zero_from_test i z))
-          by_test i w false z = yes_fine.run m s taken l (T.assumed_holds e true v s i own h w (nonzero_from_test i z))
+          by_test : (j : ℤ) → value_of e s S.mode ≡ Ok j → (t : Bool) → is_zero j ≡ t
+              → Seen S (walk S m (settled (standing (followed (if t then q else p) (followed rest k)) ls s taken)))
+          by_test j u true z = no_fine.run m s taken i (S.T.assumed_holds e false w.behind s j if_own h u (zero_from_test j z))
+          by_test j u false z = yes_fine.run m s taken i (S.T.assumed_holds e true w.behind s j if_own h u (nonzero_from_test j z))
 
-      if_next : Next n (followed (If place e p q rest) k) v
+      if_next : Next S n (followed (If place e p q rest) k) ls w.behind
       if_next = record { next = one }
 
-    block_next : (place : Place) (body rest : Code) (v : LeafValue) (k : Code) → Good (Block place body rest) v → Fine (suc n) k (passed M mode H (Block place body rest) v) → Next n (followed (Block place body rest) k) v
-    block_next place body rest v k g f =
-        let inner : Good body v =
-        record { valid = g.valid; names = g.names.0; plain = g.plain.0; known = all_first Known (entries_by M mode H body v) (entries_by M mode H rest (passed M mode H body v)) g.known.1; held = g.held.0 } in
-        let a = good_answers body v inner in
-        let b = behind rest v (passed M mode H body v) k a g.names.1 g.plain.1 (all_second Known (entries_by M mode H body v) (entries_by M mode H rest (passed M mode H body v)) g.known.1) g.held.1 f in
-        let whole = S.statements body v (followed rest k) inner b in
-        record { next = λ m s taken l h. whole.run m s taken l h }
+    -- a jump is taken
+    leave_next : (place : Place) (jump : Jump) (rest : Code) (w : Ways) → Good S (Leave place jump rest) w → Exits S n ls (leave_by S.M S.mode jump w) → Next S n (followed (Leave place jump rest) k) ls w.behind
+    leave_next place Break rest w g x = record {
+      next = λ m s taken i h. x.broke.run m s taken i (joined_second S.M S.laws S.count w.broke w.behind s g.leaves.broke g.leaves.behind h);
+    }
+    leave_next place Continue rest w g x = record {
+      next = λ m s taken i h. x.continued.run m s taken i (joined_second S.M S.laws S.count w.continued w.behind s g.leaves.continued g.leaves.behind h);
+    }
+    leave_next place (Return e) rest w g x =
+        let v = w.behind in
+        let t = own e v g.leaves.behind g.names.0 in
+        let l = valued_leaf S.M S.laws S.mode S.A S.count e v g.leaves.behind g.names.0 in
+        record {
+          next = λ m s taken i h. by_value S (value_of e s S.mode) place (λ j. Moved (left_by (Return e) ls s taken)) s m
+              (λ j q. x.returned.run m s taken i (joined_second S.M S.laws S.count w.returned (valued S.M S.mode e v) s g.leaves.returned l (S.T.valued_holds e v s j t h q)))
+              (λ kind q. g.known.0.stops kind (S.T.may_holds (Leave place (Return e) Done) v ls s S.inputs taken place kind g.leaves.behind.valid (t.term, tt) h
+              (ap (λ r. with_value place r (λ j. Moved (left_by (Return e) ls s taken))) q)));
+        }
 
-    skip_next : (place : Place) (rest : Code) (v : LeafValue) (k : Code) → Good (Skip place rest) v → Fine (suc n) k (passed M mode H (Skip place rest) v) → Next n (followed (Skip place rest) k) v
-    skip_next place rest v k g f =
-        let b = S.statements rest v k (record { valid = g.valid; names = g.names; plain = g.plain; known = g.known.1; held = g.held }) (less (suc n) n k (passed M mode H rest v) (omega arith) f) in
-        record { next = λ m s taken l h. b.run m s taken l h }
+    left_exits : (place : Place) (jump : Jump) (rest : Code) (w : Ways) → Good S (Leave place jump rest) w → Exits S (suc n) ls (pass S (Leave place jump rest) w) → Exits S n ls (leave_by S.M S.mode jump w)
+    left_exits place jump rest w g exits =
+        let u = leave_by S.M S.mode jump w in
+        let i = kept S rest u (record { leaves = (leave_kept S.M S.laws S.mode S.A S.count jump w g.leaves g.names.0).leaves; names = g.names.1; plain = g.plain; known = g.known.1; held = g.held }) in
+        exits_finer S n ls u (pass S rest u) i.grows (exits_less S (suc n) n ls (pass S rest u) (omega arith) exits)
 
-    step_of_statement : (c : Code) (v : LeafValue) (k : Code) → Good c v → Fine (suc n) k (passed M mode H c v) → Fine (suc n) (followed c k) v
-    step_of_statement Done v k g f = f
-    step_of_statement (Assign place x e rest) v k g f =
-        made n (followed (Assign place x e rest) k) v (record { cut = λ s h. at_place (record { place = place; statement = Assign place x e Done; leaf = v }) s g.known.0 h }) (assign_next place x e rest v k g f)
-    step_of_statement (Input place x rest) v k g f =
-        made n (followed (Input place x rest) k) v (record { cut = λ s h. at_place (record { place = place; statement = Input place x Done; leaf = v }) s g.known.0 h }) (input_next place x rest v k g f)
-    step_of_statement (Assert place e rest) v k g f =
-        made n (followed (Assert place e rest) k) v (record { cut = λ s h. at_place (record { place = place; statement = Assert place e Done; leaf = v }) s g.known.0 h }) (assert_next place e rest v k g f)
-    step_of_statement (If place e p q rest) v k g f =
-        made n (followed (If place e p q rest) k) v (record { cut = λ s h. at_place (record { place = place; statement = If place e p q Done; leaf = v }) s g.known.0 h }) (if_next place e p q rest v k g f)
-    step_of_statement (While place e step body rest) v k g f =
-        let x = head_by M mode H place e step body v in
-        let b = S.statements rest (assumed M mode e false x) k (after_loop place e step body rest v g) (less (suc n) n k (passed M mode H rest (assumed M mode e false x)) (omega arith) f) in
-        finer (suc n) (While place e step body (followed rest k)) x v g.held.0.entered
-        (L place e step body (followed rest k) x (good_loop place e step body rest v g) (λ m l. less n m (followed rest k) (assumed M mode e false x) (omega arith) b))
-    step_of_statement (Block place body rest) v k g f =
-        made n (followed (Block place body rest) k) v (record { cut = λ s h. at_place (record { place = place; statement = Block place body Done; leaf = v }) s g.known.0 h }) (block_next place body rest v k g f)
-    step_of_statement (Skip place rest) v k g f =
-        made n (followed (Skip place rest) k) v (record { cut = λ s h. at_place (record { place = place; statement = Skip place Done; leaf = v }) s g.known.0 h }) (skip_next place rest v k g f)
-    step_of_statement (Cond number p q rest) v k g f = absurd g.plain
+    block_next : (place : Place) (body rest : Code) (w : Ways) → Good S (Block place body rest) w → Fine S (suc n) (standing k ls) (pass S (Block place body rest) w).behind → Exits S (suc n) ls (pass S (Block place body rest) w)
+        → Next S n (followed (Block place body rest) k) ls w.behind
+    block_next place body rest w g f exits =
+        let inner : Good S body w = record { leaves = g.leaves; names = g.names.0; plain = g.plain.0; known = all_first (Known S) _ _ g.known.1; held = g.held.0 } in
+        let u = pass S body w in
+        let after : Good S rest u
+        = record { leaves = (kept S body w inner).leaves; names = g.names.1; plain = g.plain.1; known = all_second (Known S) (entries_by S.M S.mode S.H body w) _ g.known.1; held = g.held.1 } in
+        let b = behind rest u after f exits in
+        let x = exits_finer S n ls u (pass S rest u) (kept S rest u after).grows (exits_less S (suc n) n ls (pass S rest u) (omega arith) exits) in
+        let whole = I.statements body w (followed rest k) ls inner b x in
+        record { next = λ m s taken i h. whole.run m s taken i h }
 
-  sound : (n : ℕ) → Sound n
-  sound zero = record {
-    statements = cut_of_statement;
-    loops = λ place e step body k x g f. none_made (While place e step body k) x (loop_cut place e step body k x g);
-  }
-  sound (suc n) =
-      let S = sound n in
-      let L = λ (place : Place) (e : Term) (step body k : Code) (x : LeafValue) (g : GoodLoop place e step body x) (f : (m : ℕ) → m < suc n → Fine m k (assumed M mode e false x)).
-      made n (While place e step body k) x (loop_cut place e step body k x g) (loop_next n place e step body k x S g f) in
-      record { statements = step_of_statement n S L; loops = L }
+    skip_next : (place : Place) (rest : Code) (w : Ways) → Good S (Skip place rest) w → Fine S (suc n) (standing k ls) (pass S (Skip place rest) w).behind → Exits S (suc n) ls (pass S (Skip place rest) w)
+        → Next S n (followed (Skip place rest) k) ls w.behind
+    skip_next place rest w g f exits =
+        let b = behind rest w (record { leaves = g.leaves; names = g.names; plain = g.plain; known = g.known.1; held = g.held }) f exits in
+        record { next = λ m s taken i h. b.run m s taken i h }
+
+  step_of_statement : (n : ℕ) → Sound S n → (c : Code) (w : Ways) (k : Code) (ls : List Level) → Good S c w → Fine S (suc n) (standing k ls) (pass S c w).behind → Exits S (suc n) ls (pass S c w)
+      → Fine S (suc n) (standing (followed c k) ls) w.behind
+  step_of_statement n I Done w k ls g f x = f
+  step_of_statement n I (Assign place x e rest) w k ls g f exits = made S n _ ls w.behind (λ s taken. refl) (cut_at S _ _ g.known.0 (λ s. refl)) (assign_next n I k ls place x e rest w g f exits)
+  step_of_statement n I (Input place x rest) w k ls g f exits = made S n _ ls w.behind (λ s taken. refl) (cut_at S _ _ g.known.0 (λ s. refl)) (input_next n I k ls place x rest w g f exits)
+  step_of_statement n I (Assert place e rest) w k ls g f exits = made S n _ ls w.behind (λ s taken. refl) (cut_at S _ _ g.known.0 (λ s. refl)) (assert_next n I k ls place e rest w g f exits)
+  step_of_statement n I (If place e p q rest) w k ls g f exits = made S n _ ls w.behind (λ s taken. refl) (cut_at S _ _ g.known.0 (λ s. refl)) (if_next n I k ls place e p q rest w g f exits)
+  step_of_statement n I (While place e step body rest) w k ls g f exits =
+      let i = inner_first S place e step body rest w g in loop_steps S n I place (TestFirst e step body) rest w i k ls (behind n I k ls rest _ i.others f exits) exits
+  step_of_statement n I (Do place body at e rest) w k ls g f exits =
+      let i = inner_last S place body at e rest w g in loop_steps S n I place (TestLast body at e) rest w i k ls (behind n I k ls rest _ i.others f exits) exits
+  step_of_statement n I (Leave place jump rest) w k ls g f exits = made S n _ ls w.behind (λ s taken. refl) (cut_at S _ _ g.known.0 (λ s. refl)) (leave_next n I k ls place jump rest w g (left_exits n I k ls place jump rest w g exits))
+  step_of_statement n I (Block place body rest) w k ls g f exits = made S n _ ls w.behind (λ s taken. refl) (cut_at S _ _ g.known.0 (λ s. refl)) (block_next n I k ls place body rest w g f exits)
+  step_of_statement n I (Skip place rest) w k ls g f exits = made S n _ ls w.behind (λ s taken. refl) (cut_at S _ _ g.known.0 (λ s. refl)) (skip_next n I k ls place rest w g f exits)
+  step_of_statement n I (Cond number p q rest) w k ls g f exits = absurd g.plain
+
+  sound : (n : ℕ) → Sound S n
+  sound zero = record { statements = cut_of_statement; loops = λ place l k ls x g f. loops_none S place l k ls x g }
+  sound (suc n) = let I = sound n in record { statements = step_of_statement n I; loops = loops_some S n I }
+
+  -- ---- the end of a program
 
   -- nothing is left
-  ended : (v : LeafValue) → at end ≡ v → (n : ℕ) → Fine n Done v
-  ended v e zero = none_made Done v (record { cut = λ s h. subst (λ u. M.holds u s) (sym e) h })
-  ended v e (suc n) = made n Done v (record { cut = λ s h. subst (λ u. M.holds u s) (sym e) h }) (record { next = λ m s taken l h. subst (λ u. M.holds u s) (sym e) h })
+  ended : (n : ℕ) (v : LeafValue) → ((s : List ℤ) → S.M.holds v s → S.M.holds (S.at S.end) s) → Fine S n (standing Done []) v
+  ended n v h = record { run = by_count }
+    where
+      by_count : (m : ℕ) (s : List ℤ) (taken : ℕ) → m ≤ n → S.M.holds v s → Seen S (walk S m (settled (standing Done [] s taken)))
+      by_count zero s taken l k = h s k
+      by_count (suc m) s taken l k = h s k
 
-  pub runs_foreseen : (c : Code) (v : LeafValue) → M.valid v → IsCodeOf v.variables c → IsPlain c → AllByRecursion Known (entries_by M mode H c v) → AreHeld M mode H c v → at end ≡ passed M mode H c v
-      → (s : List ℤ) (n : ℕ) → M.holds v s → IsForeseen M at end alarms (steps_of mode inputs n (record { todo = c; store = s; taken = 0 }))
-  runs_foreseen c v valid names plain known held e s n h =
-      let whole = (sound n).statements c v Done (record { valid = valid; names = names; plain = plain; known = known; held = held }) (ended (passed M mode H c v) e n) in
-      subst (λ t. IsForeseen M at end alarms (steps_of mode inputs n (record { todo = t; store = s; taken = 0 }))) (followed-Done c) (whole.run n s 0 (omega arith) h)
+  -- no loop is entered yet
+  settled_start : (c : Code) (s : List ℤ) (taken : ℕ) → settled (standing c [] s taken) ≡ standing c [] s taken
+  settled_start Done s taken = refl
+  settled_start (Assign place x e rest) s taken = refl
+  settled_start (Input place x rest) s taken = refl
+  settled_start (Assert place e rest) s taken = refl
+  settled_start (If place e p q rest) s taken = refl
+  settled_start (While place e step body rest) s taken = refl
+  settled_start (Do place body at e rest) s taken = refl
+  settled_start (Leave place jump rest) s taken = refl
+  settled_start (Block place body rest) s taken = refl
+  settled_start (Skip place rest) s taken = refl
+  settled_start (Cond number p q rest) s taken = refl
+
+  module _ (c : Code) (d : LeafValue) (g : Good S c (enter d)) (e : S.at S.end ≡ end_of S.M (pass S c (enter d))) where
+    abbrev u : Ways
+    u = pass S c (enter d)
+
+    u_leaves : AreLeaves S.M S.count u
+    u_leaves = (kept S c (enter d) g).leaves
+
+    abbrev with_returned : LeafValue
+    with_returned = joined S.M u.behind u.returned
+
+    abbrev with_broke : LeafValue
+    with_broke = joined S.M with_returned u.broke
+
+    returned_leaf : Leaf with_returned
+    returned_leaf = joined_leaf S.M S.laws S.count u.behind u.returned u_leaves.behind u_leaves.returned
+
+    broke_leaf : Leaf with_broke
+    broke_leaf = joined_leaf S.M S.laws S.count with_returned u.broke returned_leaf u_leaves.broke
+
+    at_last : (s : List ℤ) → S.M.holds (end_of S.M u) s → S.M.holds (S.at S.end) s
+    at_last s h = subst (λ v. S.M.holds v s) (sym e) h
+
+    by_broke : (s : List ℤ) → S.M.holds with_broke s → S.M.holds (S.at S.end) s
+    by_broke s h = at_last s (joined_first S.M S.laws S.count with_broke u.continued s broke_leaf u_leaves.continued h)
+
+    by_returned : (s : List ℤ) → S.M.holds with_returned s → S.M.holds (S.at S.end) s
+    by_returned s h = by_broke s (joined_first S.M S.laws S.count with_returned u.broke s returned_leaf u_leaves.broke h)
+
+    pub runs_foreseen : (s : List ℤ) (n : ℕ) → S.M.holds d s → Seen S (walk S n (standing c [] s 0))
+    runs_foreseen s n h =
+        let whole = (sound n).statements c (enter d) Done [] g
+        (ended n u.behind (λ s p. by_returned s (joined_first S.M S.laws S.count u.behind u.returned s u_leaves.behind u_leaves.returned p)))
+        (record {
+          broke = record { run = (ended n u.broke (λ s p. by_broke s (joined_second S.M S.laws S.count with_returned u.broke s returned_leaf u_leaves.broke p))).run };
+          continued = record { run = (ended n u.continued (λ s p. at_last s (joined_second S.M S.laws S.count with_broke u.continued s broke_leaf u_leaves.continued p))).run };
+          returned = ended n u.returned (λ s p. by_returned s (joined_second S.M S.laws S.count u.behind u.returned s u_leaves.behind u_leaves.returned p));
+        }) in
+        subst (λ t. Seen S (walk S n t)) (settled_start c s 0)
+        (subst (λ t. Seen S (walk S n (settled (standing t [] s 0)))) (followed-Done c) (whole.run n s 0 (omega arith) h))

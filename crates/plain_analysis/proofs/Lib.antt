@@ -4,12 +4,16 @@ pub mod Sizes
 pub mod EnteredLemmas
 pub mod Settles
 pub mod JoinLemmas
+pub mod ViewLemmas
+pub mod Kept
+pub mod Nothing
 pub mod Recursion
 pub mod Located
+pub mod Fine
+pub mod LoopSteps
 pub mod Foreseen
 pub mod Promised
 pub mod Held
-pub mod Nothing
 pub mod StatedLemmas
 pub mod TableLemmas
 pub mod FinalsLemmas

@@ -6,7 +6,7 @@ use Rattle.std.proofs.lemmas.List.{map-append}
 use Rattle.fam_outer.specs.declared.faults.Place.{Place}
 use Rattle.c_tree.specs.declared.tree.Kind.{Kind}
 use Rattle.c_tree.specs.declared.tree.Mode.{Mode}
-use Rattle.c_tree.specs.Tree.{Code, Done, Assign, Input, Assert, If, While, Block, Skip, Cond, Whole}
+use Rattle.c_tree.specs.Tree.{Code, Done, Assign, Input, Assert, If, While, Do, Leave, Block, Skip, Cond, Whole}
 use Rattle.c_tree.specs.Fit.{IsPlain}
 use Rattle.c_tree.specs.Places.{places_of, program_places}
 use Rattle.fam_outer.specs.Places.{is_before}
@@ -14,7 +14,8 @@ use Rattle.c_tree.specs.Whole.{IsBeforeAll, IsRising}
 use Rattle.leaf_domain.specs.Leaves.{LeafValue, LeafMeaning, nothing_of}
 use Rattle.leaf_domain.specs.Transfer.{assumed, assigned, forgotten}
 use Rattle.leaf_domain.specs.Stops.{may_at}
-use Rattle.plain_analysis.specs.Statements.{Heads, Entry, passed, head_by, entries_by}
+use Rattle.plain_analysis.specs.Statements.{Heads, Entry, TestFirst, TestLast, passed, chosen, through_body, head_by, behind_by, entries_by}
+use Rattle.plain_analysis.specs.Ways.{Ways, onto, enter, leave_by, going_on, end_of}
 use Rattle.plain_analysis.specs.Places.{is_same_place, entry_in, leaf_or, at_by, may_stop, alarm_by, alarms_at, alarms_over, alarms_by}
 use Rattle.plain_analysis.specs.Entered.{alarms_in}
 
@@ -64,30 +65,38 @@ both : (xs ys : List Entry) (ps qs : List Place) → map place_of xs ≡ ps → 
 both xs ys ps qs e f = map-append place_of xs ys ∙ (ap (λ l. l ++ map place_of ys) e ∙ ap (λ l. ps ++ l) f)
 
 module _ (M : LeafMeaning) (mode : Mode) (H : Heads) where
-  pub places_of_entries : (c : Code) (v : LeafValue) → IsPlain c → map place_of (entries_by M mode H c v) ≡ places_of c
+  pub places_of_entries : (c : Code) (w : Ways) → IsPlain c → map place_of (entries_by M mode H c w) ≡ places_of c
   unfolding place_of
-  places_of_entries Done v h = refl
-  places_of_entries (Assign place x e rest) v h = ap (λ l. place ∷ l) (places_of_entries rest (assigned M mode x e v) h)
-  places_of_entries (Input place x rest) v h = ap (λ l. place ∷ l) (places_of_entries rest (forgotten M x v) h)
-  places_of_entries (Assert place e rest) v h = ap (λ l. place ∷ l) (places_of_entries rest (assumed M mode e true v) h)
-  places_of_entries (If place e p q rest) v h =
-      let t = assumed M mode e true v in
-      let f = assumed M mode e false v in
-      let j = M.join (passed M mode H p t) (passed M mode H q f) in
-      ap (λ l. place ∷ l) (both (entries_by M mode H p t) (entries_by M mode H q f ++ entries_by M mode H rest j) _ _ (places_of_entries p t h.0)
-      (both (entries_by M mode H q f) (entries_by M mode H rest j) _ _ (places_of_entries q f h.1) (places_of_entries rest j h.2)))
-  places_of_entries (While place e step body rest) v h =
-      let x = head_by M mode H place e step body v in
-      let yes = assumed M mode e true x in
-      let no = assumed M mode e false x in
-      let w = passed M mode H body yes in
-      ap (λ l. place ∷ l) (both (entries_by M mode H step w) (entries_by M mode H body yes ++ entries_by M mode H rest no) _ _ (places_of_entries step w h.0)
-      (both (entries_by M mode H body yes) (entries_by M mode H rest no) _ _ (places_of_entries body yes h.1) (places_of_entries rest no h.2)))
-  places_of_entries (Block place body rest) v h =
-      let w = passed M mode H body v in
-      ap (λ l. place ∷ l) (both (entries_by M mode H body v) (entries_by M mode H rest w) _ _ (places_of_entries body v h.0) (places_of_entries rest w h.1))
-  places_of_entries (Skip place rest) v h = ap (λ l. place ∷ l) (places_of_entries rest v h)
-  places_of_entries (Cond number p q rest) v h = absurd h
+  places_of_entries Done w h = refl
+  places_of_entries (Assign place x e rest) w h = ap (λ l. place ∷ l) (places_of_entries rest (onto w (assigned M mode x e w.behind)) h)
+  places_of_entries (Input place x rest) w h = ap (λ l. place ∷ l) (places_of_entries rest (onto w (forgotten M x w.behind)) h)
+  places_of_entries (Assert place e rest) w h = ap (λ l. place ∷ l) (places_of_entries rest (onto w (assumed M mode e true w.behind)) h)
+  places_of_entries (If place e p q rest) w h =
+      let yes_in = onto w (assumed M mode e true w.behind) in
+      let no_in = onto (passed M mode H p yes_in) (assumed M mode e false w.behind) in
+      let out = chosen M mode H e p q w in
+      ap (λ l. place ∷ l) (both (entries_by M mode H p yes_in) (entries_by M mode H q no_in ++ entries_by M mode H rest out) _ _ (places_of_entries p yes_in h.0)
+      (both (entries_by M mode H q no_in) (entries_by M mode H rest out) _ _ (places_of_entries q no_in h.1) (places_of_entries rest out h.2)))
+  places_of_entries (While place e step body rest) w h =
+      let l = TestFirst e step body in
+      let x = head_by M mode H place l w.behind in
+      let step_in = enter (going_on M (through_body M mode H l x)) in
+      let body_in = enter (assumed M mode e true x) in
+      let out = behind_by M mode H l w x in
+      ap (λ l. place ∷ l) (both (entries_by M mode H step step_in) (entries_by M mode H body body_in ++ entries_by M mode H rest out) _ _ (places_of_entries step step_in h.0)
+      (both (entries_by M mode H body body_in) (entries_by M mode H rest out) _ _ (places_of_entries body body_in h.1) (places_of_entries rest out h.2)))
+  places_of_entries (Do place body at e rest) w h =
+      let l = TestLast body at e in
+      let x = head_by M mode H place l w.behind in
+      let out = behind_by M mode H l w x in
+      ap (λ l. place ∷ l) (both (entries_by M mode H body (enter x)) (_ ∷ entries_by M mode H rest out) _ _ (places_of_entries body (enter x) h.0)
+      (ap (λ l. at ∷ l) (places_of_entries rest out h.1)))
+  places_of_entries (Leave place jump rest) w h = ap (λ l. place ∷ l) (places_of_entries rest (leave_by M mode jump w) h)
+  places_of_entries (Block place body rest) w h =
+      let out = passed M mode H body w in
+      ap (λ l. place ∷ l) (both (entries_by M mode H body w) (entries_by M mode H rest out) _ _ (places_of_entries body w h.0) (places_of_entries rest out h.1))
+  places_of_entries (Skip place rest) w h = ap (λ l. place ∷ l) (places_of_entries rest w h)
+  places_of_entries (Cond number p q rest) w h = absurd h
 
   -- ---- what is found at the places
 
@@ -118,10 +127,13 @@ module _ (M : LeafMeaning) (mode : Mode) (H : Heads) where
 
   module _ (p : Whole) (d : LeafValue) (plain : IsPlain p.body) (rising : IsRising (program_places p)) where
     abbrev pub es : List Entry
-    es = entries_by M mode H p.body d
+    es = entries_by M mode H p.body (enter d)
+
+    abbrev last : LeafValue
+    last = end_of M (passed M mode H p.body (enter d))
 
     pub same_places : map place_of es ++ p.end ∷ [] ≡ program_places p
-    same_places = ap (λ l. l ++ p.end ∷ []) (places_of_entries p.body d plain)
+    same_places = ap (λ l. l ++ p.end ∷ []) (places_of_entries p.body (enter d) plain)
 
     rising_here : IsRising (map place_of es ++ p.end ∷ [])
     rising_here = subst IsRising (sym same_places) rising
@@ -129,13 +141,13 @@ module _ (M : LeafMeaning) (mode : Mode) (H : Heads) where
     pub listed : IsListed es es
     listed = all_listed es (p.end ∷ []) rising_here
 
-    pub at_end : at_by M mode H p d p.end ≡ passed M mode H p.body d
-    at_end = ap (λ (x : Option Entry). leaf_or (if is_same_place p.end p.end then passed M mode H p.body d else nothing_of d.variables) x) (none_at_end es p.end rising_here)
-        ∙ ap (λ b. if b then passed M mode H p.body d else nothing_of d.variables) (same_place_self p.end)
+    pub at_end : at_by M mode H p d p.end ≡ end_of M (passed M mode H p.body (enter d))
+    at_end = ap (λ (x : Option Entry). leaf_or (if is_same_place p.end p.end then last else nothing_of d.variables) x) (none_at_end es p.end rising_here)
+        ∙ ap (λ b. if b then last else nothing_of d.variables) (same_place_self p.end)
 
-    pub leaves_are : map leaf_of es ++ passed M mode H p.body d ∷ [] ≡ map (at_by M mode H p d) (program_places p)
+    pub leaves_are : map leaf_of es ++ end_of M (passed M mode H p.body (enter d)) ∷ [] ≡ map (at_by M mode H p d) (program_places p)
     leaves_are =
-        ap (λ l. l ++ passed M mode H p.body d ∷ []) (sym (leaves_found es es (λ q. if is_same_place p.end q then passed M mode H p.body d else nothing_of d.variables) listed))
+        ap (λ l. l ++ end_of M (passed M mode H p.body (enter d)) ∷ []) (sym (leaves_found es es (λ q. if is_same_place p.end q then last else nothing_of d.variables) listed))
         ∙ (ap (λ x. map (at_by M mode H p d) (map place_of es) ++ x ∷ []) (sym at_end)
         ∙ (sym (map-append (at_by M mode H p d) (map place_of es) (p.end ∷ [])) ∙ ap (map (at_by M mode H p d)) same_places))
 

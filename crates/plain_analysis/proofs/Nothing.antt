@@ -1,7 +1,8 @@
--- Nothing goes through statements as Nothing.
+-- Nothing behind stays so, and nothing leaves.
 use Rattle.std.proofs.Common.{◌≡◌, ℕ, ◌≤◌, true, List, Option, Some, None, refl, ap, sym, ◌∙◌, ℤ}
 use Rattle.std.specs.Prelude.{is_none, if◌then◌else◌, Bool, false}
-use Rattle.c_tree.specs.Tree.{Term, Code, Done, Assign, Input, Assert, If, While, Block, Skip, Cond}
+use Rattle.c_tree.specs.Tree.{Term, Jump, Break, Continue, Return, Code, Done, Assign, Input, Assert, If, While, Do, Leave, Block, Skip, Cond}
+use Rattle.fam_outer.specs.declared.faults.Place.{Place}
 use Rattle.leaf_domain.specs.declared.form.Form.{Form}
 use Rattle.leaf_domain.specs.declared.operation.Operation.{Operation}
 use Rattle.leaf_domain.specs.declared.range.Range.{Range}
@@ -9,10 +10,11 @@ use Rattle.leaf_domain.specs.Forms.{form_of_term}
 use Rattle.leaf_domain.specs.Ranges.{is_empty_range, whole_int}
 use Rattle.leaf_domain.specs.Leaves.{LeafValue, LeafMeaning, LeafLaws, Alike, nothing_of, is_nothing_of}
 use Rattle.leaf_domain.specs.Soundness.{TransferAnswers}
-use Rattle.leaf_domain.specs.Transfer.{assumed, assigned, operation_set, form_set, form_where, fits_term, operation_of_term, range_of_term}
+use Rattle.leaf_domain.specs.Transfer.{assumed, assigned, valued, operation_set, form_set, form_where, fits_term, operation_of_term, range_of_term}
 use Rattle.plain_analysis.specs.declared.options.Options.{Options}
 use Rattle.plain_analysis.specs.Loops.{turn_of, round_count, widened_leaf, narrowing_of, narrowings_of, final_leaf}
-use Rattle.plain_analysis.specs.Statements.{after_of, lap_of}
+use Rattle.plain_analysis.specs.Statements.{LoopParts, TestFirst, TestLast, chosen, final_heads, behind_by, after_of, lap_of}
+use Rattle.plain_analysis.specs.Ways.{Ways, onto, enter, joined, leave_by, going_on, behind_loop}
 use Rattle.plain_analysis.proofs.Rounds.{rounds_stay, narrowings_stay}
 
 same_content : (m : ℕ) (c : Option (List ℤ)) → is_none c ≡ true → (let v : LeafValue = record { variables = m; content = c } in v) ≡ nothing_of m
@@ -57,42 +59,90 @@ module _ (M : LeafMeaning) (laws : LeafLaws M) (o : Options) (answers : Transfer
   either_way true c e = e
   either_way false c e = refl
 
-  pub loop_nothing : (test : Term) (lap : LeafValue → LeafValue) → lap (nothing_of n) ≡ nothing_of n → final_leaf M o test lap (nothing_of n) ≡ nothing_of n
-  loop_nothing test lap same =
-      let G : LeafValue → LeafValue = turn_of M o.mode test lap (nothing_of n) in
-      let turned : G (nothing_of n) ≡ nothing_of n = joined_nothing (nothing_of n) (lap (assumed M o.mode test true (nothing_of n))) refl (ap lap (assumed_nothing test true) ∙ same) in
+  valued_nothing : (e : Term) → valued M o.mode e (nothing_of n) ≡ nothing_of n
+  valued_nothing e = either_way (is_empty_range (range_of_term M o.mode e (nothing_of n))) (nothing_of n) refl
+
+  -- a loop that is entered with Nothing, where a lap makes Nothing of it
+  pub loop_nothing : (lap : LeafValue → LeafValue) → lap (nothing_of n) ≡ nothing_of n → final_leaf M o lap (nothing_of n) ≡ nothing_of n
+  loop_nothing lap same =
+      let G : LeafValue → LeafValue = turn_of M lap (nothing_of n) in
+      let turned : G (nothing_of n) ≡ nothing_of n = joined_nothing (nothing_of n) (lap (nothing_of n)) refl same in
       let below : M.leq (G (nothing_of n)) (nothing_of n) ≡ true = ap (λ v. M.leq v (nothing_of n)) turned ∙ laws.nothing_leq n (nothing_of n) in
       let wide : widened_leaf M o.thresholds o.delay G (nothing_of n) ≡ nothing_of n = rounds_stay M o.thresholds o.delay G (round_count M o.thresholds o.delay n) 0 (nothing_of n) below in
       let stays : narrowing_of M o.thresholds G (nothing_of n) ≡ nothing_of n = either_way (M.leq (G (M.narrow o.thresholds (nothing_of n) (G (nothing_of n)))) (M.narrow o.thresholds (nothing_of n) (G (nothing_of n)))) (M.narrow o.thresholds (nothing_of n) (G (nothing_of n))) (narrowed_nothing (G (nothing_of n)) turned) in
       ap (narrowings_of M o.thresholds G o.narrow) wide ∙ narrowings_stay M o.thresholds G o.narrow (nothing_of n) stays
 
-  pub after_nothing : (c : Code) → after_of M o c (nothing_of n) ≡ nothing_of n
-  after_nothing Done = refl
-  after_nothing (Assign place x e rest) = ap (after_of M o rest) (assigned_nothing x e) ∙ after_nothing rest
-  after_nothing (Input place x rest) = ap (after_of M o rest) (set_nothing None None x whole_int) ∙ after_nothing rest
-  after_nothing (Assert place e rest) = ap (after_of M o rest) (assumed_nothing e true) ∙ after_nothing rest
-  after_nothing (If place e p q rest) =
-      ap (after_of M o rest) (joined_nothing (after_of M o p (assumed M o.mode e true (nothing_of n))) (after_of M o q (assumed M o.mode e false (nothing_of n)))
-      (ap (after_of M o p) (assumed_nothing e true) ∙ after_nothing p) (ap (after_of M o q) (assumed_nothing e false) ∙ after_nothing q))
-      ∙ after_nothing rest
-  after_nothing (While place e step body rest) =
-      ap (λ v. after_of M o rest (assumed M o.mode e false v)) (loop_nothing e (lap_of M o step body) (ap (after_of M o step) (after_nothing body) ∙ after_nothing step))
-      ∙ (ap (after_of M o rest) (assumed_nothing e false) ∙ after_nothing rest)
-  after_nothing (Block place body rest) = ap (after_of M o rest) (after_nothing body) ∙ after_nothing rest
-  after_nothing (Skip place rest) = after_nothing rest
-  after_nothing (Cond number p q rest) = after_nothing rest
+  abbrev none : LeafValue
+  none = nothing_of n
 
-  pub lap_nothing : (step body : Code) → lap_of M o step body (nothing_of n) ≡ nothing_of n
-  lap_nothing step body = ap (after_of M o step) (after_nothing body) ∙ after_nothing step
+  -- what is passed with Nothing behind stays as it is
+  Stays : Code → Type 0
+  Stays c = (w : Ways) → after_of M o c (onto w (nothing_of n)) ≡ onto w (nothing_of n)
 
--- a leaf that is Nothing stays as it is
-pub after_stays : (M : LeafMeaning) → LeafLaws M → (o : Options) → TransferAnswers M o.mode → (v : LeafValue) → v.variables ≤ 48 → is_nothing_of v ≡ true → (c : Code) → after_of M o c v ≡ v
-after_stays M laws o answers v few is c =
+  lap_first : (e : Term) (step body : Code) → Stays step → Stays body → lap_of M o (TestFirst e step body) none ≡ none
+  unfolding Stays
+  lap_first e step body h k =
+      ap (λ v. (after_of M o step (enter (going_on M (after_of M o body (enter v))))).behind) (assumed_nothing e true)
+      ∙ (ap (λ (b : Ways). (after_of M o step (enter (going_on M b))).behind) (k (enter none)) ∙ ap (λ (b : Ways). b.behind) (h (enter none)))
+
+  lap_last : (body : Code) (at : Place) (e : Term) → Stays body → lap_of M o (TestLast body at e) none ≡ none
+  unfolding Stays
+  lap_last body at e k = ap (λ (b : Ways). assumed M o.mode e true (going_on M b)) (k (enter none)) ∙ assumed_nothing e true
+
+  behind_first : (e : Term) (step body : Code) (w : Ways) → Stays body → behind_by M o.mode (final_heads M o) (TestFirst e step body) (onto w none) none ≡ onto w none
+  unfolding Stays
+  behind_first e step body w k =
+      ap (λ v. behind_loop M w (assumed M o.mode e false none) (after_of M o body (enter v))) (assumed_nothing e true)
+      ∙ (ap (behind_loop M w (assumed M o.mode e false none)) (k (enter none)) ∙ ap (onto w) (assumed_nothing e false))
+
+  behind_last : (body : Code) (at : Place) (e : Term) (w : Ways) → Stays body → behind_by M o.mode (final_heads M o) (TestLast body at e) (onto w none) none ≡ onto w none
+  unfolding Stays
+  behind_last body at e w k = ap (λ (b : Ways). behind_loop M w (assumed M o.mode e false (going_on M b)) b) (k (enter none)) ∙ ap (onto w) (assumed_nothing e false)
+
+  left_nothing : (jump : Jump) (w : Ways) → leave_by M o.mode jump (onto w none) ≡ onto w none
+  left_nothing Break w = refl
+  left_nothing Continue w = refl
+  left_nothing (Return e) w = ap (λ v. record { behind = none; broke = w.broke; continued = w.continued; returned = joined M w.returned v }) (valued_nothing e)
+
+  chosen_nothing : (e : Term) (p q : Code) (w : Ways) → Stays p → Stays q → chosen M o.mode (final_heads M o) e p q (onto w none) ≡ onto w none
+  unfolding Stays
+  chosen_nothing e p q w h k =
+      ap (λ v. let a = after_of M o p (onto w v) in let b = after_of M o q (onto a (assumed M o.mode e false none)) in onto b (M.join a.behind b.behind)) (assumed_nothing e true)
+      ∙ (ap (λ (a : Ways). let b = after_of M o q (onto a (assumed M o.mode e false none)) in onto b (M.join a.behind b.behind)) (h w)
+      ∙ (ap (λ v. let b = after_of M o q (onto w v) in onto b (M.join none b.behind)) (assumed_nothing e false)
+      ∙ (ap (λ (b : Ways). onto b (M.join none b.behind)) (k w) ∙ ap (onto w) (laws.join_nothing none))))
+
+  pub after_nothing : (c : Code) (w : Ways) → after_of M o c (onto w (nothing_of n)) ≡ onto w (nothing_of n)
+  unfolding Stays
+  after_nothing Done w = refl
+  after_nothing (Assign place x e rest) w = ap (λ v. after_of M o rest (onto w v)) (assigned_nothing x e) ∙ after_nothing rest w
+  after_nothing (Input place x rest) w = ap (λ v. after_of M o rest (onto w v)) (set_nothing None None x whole_int) ∙ after_nothing rest w
+  after_nothing (Assert place e rest) w = ap (λ v. after_of M o rest (onto w v)) (assumed_nothing e true) ∙ after_nothing rest w
+  after_nothing (If place e p q rest) w = ap (after_of M o rest) (chosen_nothing e p q w (after_nothing p) (after_nothing q)) ∙ after_nothing rest w
+  after_nothing (While place e step body rest) w =
+      ap (λ x. after_of M o rest (behind_by M o.mode (final_heads M o) (TestFirst e step body) (onto w none) x)) (loop_nothing (lap_of M o (TestFirst e step body)) (lap_first e step body (after_nothing step) (after_nothing body)))
+      ∙ (ap (after_of M o rest) (behind_first e step body w (after_nothing body)) ∙ after_nothing rest w)
+  after_nothing (Do place body at e rest) w =
+      ap (λ x. after_of M o rest (behind_by M o.mode (final_heads M o) (TestLast body at e) (onto w none) x)) (loop_nothing (lap_of M o (TestLast body at e)) (lap_last body at e (after_nothing body)))
+      ∙ (ap (after_of M o rest) (behind_last body at e w (after_nothing body)) ∙ after_nothing rest w)
+  after_nothing (Leave place jump rest) w = ap (after_of M o rest) (left_nothing jump w) ∙ after_nothing rest w
+  after_nothing (Block place body rest) w = ap (after_of M o rest) (after_nothing body w) ∙ after_nothing rest w
+  after_nothing (Skip place rest) w = after_nothing rest w
+  after_nothing (Cond number p q rest) w = after_nothing rest w
+
+  pub lap_nothing : (l : LoopParts) → lap_of M o l (nothing_of n) ≡ nothing_of n
+  unfolding Stays
+  lap_nothing (TestFirst e step body) = lap_first e step body (after_nothing step) (after_nothing body)
+  lap_nothing (TestLast body at e) = lap_last body at e (after_nothing body)
+
+-- with Nothing behind, what was passed stays as it is
+pub after_stays : (M : LeafMeaning) → LeafLaws M → (o : Options) → TransferAnswers M o.mode → (w : Ways) → w.behind.variables ≤ 48 → is_nothing_of w.behind ≡ true → (c : Code) → after_of M o c w ≡ w
+after_stays M laws o answers w few is c =
+    let e : w ≡ onto w (nothing_of w.behind.variables) = ap (onto w) (nothing_value w.behind w.behind.variables is refl) in
+    ap (after_of M o c) e ∙ (after_nothing M laws o answers w.behind.variables few c w ∙ sym e)
+
+-- a loop that is entered with Nothing has it as its final leaf
+pub loop_stays : (M : LeafMeaning) → LeafLaws M → (o : Options) → TransferAnswers M o.mode → (v : LeafValue) → v.variables ≤ 48 → is_nothing_of v ≡ true → (l : LoopParts) → final_leaf M o (lap_of M o l) v ≡ v
+loop_stays M laws o answers v few is l =
     let e : v ≡ nothing_of v.variables = nothing_value v v.variables is refl in
-    ap (after_of M o c) e ∙ (after_nothing M laws o answers v.variables few c ∙ sym e)
-
-pub loop_stays : (M : LeafMeaning) → LeafLaws M → (o : Options) → TransferAnswers M o.mode → (v : LeafValue) → v.variables ≤ 48 → is_nothing_of v ≡ true → (test : Term) (step body : Code)
-    → final_leaf M o test (lap_of M o step body) v ≡ v
-loop_stays M laws o answers v few is test step body =
-    let e : v ≡ nothing_of v.variables = nothing_value v v.variables is refl in
-    ap (final_leaf M o test (lap_of M o step body)) e ∙ (loop_nothing M laws o answers v.variables few test (lap_of M o step body) (lap_nothing M laws o answers v.variables few step body) ∙ sym e)
+    ap (final_leaf M o (lap_of M o l)) e ∙ (loop_nothing M laws o answers v.variables few (lap_of M o l) (lap_nothing M laws o answers v.variables few l) ∙ sym e)

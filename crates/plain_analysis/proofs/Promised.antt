@@ -21,8 +21,11 @@ use Rattle.plain_analysis.specs.Statements.{Heads, Entry, passed, entries_by}
 use Rattle.plain_analysis.specs.Places.{is_same_place, leaf_or, at_by, alarm_where, alarms_at, alarms_by}
 use Rattle.plain_analysis.specs.Entered.{place_and_leaf, leaves_in, alarms_in}
 use Rattle.plain_analysis.specs.Promises.{RunsForeseenBy, AreHeld}
+use Rattle.plain_analysis.specs.Ways.{enter, end_of}
 use Rattle.plain_analysis.proofs.Located.{IsListed, place_of, leaf_of, listed, at_end, same_places, leaves_are, alarms_are}
-use Rattle.plain_analysis.proofs.Foreseen.{Known, runs_foreseen}
+use Rattle.plain_analysis.proofs.Kept.{enter_leaves}
+use Rattle.plain_analysis.proofs.Fine.{Setting, Known}
+use Rattle.plain_analysis.proofs.Foreseen.{runs_foreseen}
 
 -- ---- an alarm where a statement may stop
 
@@ -42,31 +45,56 @@ at_kind f place Assertion e =
 
 module _ (M : LeafMeaning) (mode : Mode) (H : Heads) (p : Whole) (d : LeafValue) (program : IsProgram p) (plain : IsPlainProgram p) where
   abbrev entries : List Entry
-  entries = entries_by M mode H p.body d
+  entries = entries_by M mode H p.body (enter d)
+
+  abbrev last_leaf : LeafValue
+  last_leaf = end_of M (passed M mode H p.body (enter d))
 
   -- ---- runs
 
   module _ (laws : LeafLaws M) (A : TransferAnswers M mode) (T : TransferHolds M mode) (inputs : List ℤ) (ints : All IsInt inputs) where
-    known_from : (es : List Entry) → IsListed entries es → ((x : Alarm) → Contains (alarms_in M mode es) x → Contains (alarms_by M mode H p d) x)
-        → AllByRecursion (Known M laws mode H A T inputs ints (at_by M mode H p d) p.end (alarms_by M mode H p d)) es
+    abbrev setting : Setting
+    setting = record {
+      M = M;
+      laws = laws;
+      mode = mode;
+      H = H;
+      A = A;
+      T = T;
+      count = d.variables;
+      inputs = inputs;
+      ints = ints;
+      at = at_by M mode H p d;
+      end = p.end;
+      alarms = alarms_by M mode H p d;
+    }
+
+    known_from : (es : List Entry) → IsListed entries es → ((x : Alarm) → Contains (alarms_in M mode es) x → Contains (alarms_by M mode H p d) x) → AllByRecursion (Known setting) es
     unfolding IsListed
     known_from [] h k = tt
     known_from (e ∷ es) h k = (
       record {
-        leaf = ap (leaf_or (if is_same_place p.end e.place then passed M mode H p.body d else nothing_of d.variables)) h.0;
+        leaf = ap (leaf_or (if is_same_place p.end e.place then last_leaf else nothing_of d.variables)) h.0;
         stops = λ kind t. k (record { place = e.place; kind = kind })
             (Contains-append_left (alarms_at (λ i. may_at M mode i e.statement e.leaf) e.place) (alarms_in M mode es) _ (at_kind (λ i. may_at M mode i e.statement e.leaf) e.place kind t));
       },
       known_from es h.1 (λ x c. k x (Contains-append_right (alarms_at (λ i. may_at M mode i e.statement e.leaf) e.place) (alarms_in M mode es) x c)),
     )
 
-    known_all : AllByRecursion (Known M laws mode H A T inputs ints (at_by M mode H p d) p.end (alarms_by M mode H p d)) entries
+    known_all : AllByRecursion (Known setting) entries
     known_all = known_from entries (listed M mode H p d plain.body program.rising) (λ x c. subst (λ l. Contains l x) (alarms_are M mode H p d plain.body program.rising) c)
 
-  pub runs : LeafLaws M → TransferAnswers M mode → TransferHolds M mode → M.valid d → d.variables ≡ length p.names → AreHeld M mode H p.body d → RunsForeseenBy M mode H p d
+  pub runs : LeafLaws M → TransferAnswers M mode → TransferHolds M mode → M.valid d → d.variables ≡ length p.names → AreHeld M mode H p.body (enter d) → RunsForeseenBy M mode H p d
   runs laws A T valid count held store inputs n h ints =
-      runs_foreseen M laws mode H A T inputs ints (at_by M mode H p d) p.end (alarms_by M mode H p d) p.body d valid (subst (λ m. IsCodeOf m p.body) (sym count) program.names) plain.body
-      (known_all laws A T inputs ints) held (at_end M mode H p d plain.body program.rising) store n h
+      runs_foreseen (setting laws A T inputs ints) p.body d
+      (record {
+        leaves = enter_leaves M laws d.variables d (record { valid = valid; count = refl });
+        names = subst (λ m. IsCodeOf m p.body) (sym count) program.names;
+        plain = plain.body;
+        known = known_all laws A T inputs ints;
+        held = held;
+      })
+      (at_end M mode H p d plain.body program.rising) store n h
 
   -- ---- the findings
 
@@ -80,7 +108,7 @@ module _ (M : LeafMeaning) (mode : Mode) (H : Heads) (p : Whole) (d : LeafValue)
   firsts [] = refl
   firsts (e ∷ es) = ap (λ l. e.place ∷ l) (firsts es)
 
-  module _ {L : Type 0} (value : L → LeafValue) (found : List (PlaceLeaf L)) (last : PlaceLeaf L) (entered : map (place_and_leaf value) found ≡ leaves_in entries) (ends : last.place ≡ p.end) (after : value last.leaf ≡ passed M mode H p.body d) where
+  module _ {L : Type 0} (value : L → LeafValue) (found : List (PlaceLeaf L)) (last : PlaceLeaf L) (entered : map (place_and_leaf value) found ≡ leaves_in entries) (ends : last.place ≡ p.end) (after : value last.leaf ≡ end_of M (passed M mode H p.body (enter d))) where
     places_found : (ps : List (PlaceLeaf L)) → map (λ (x : PlaceLeaf L). x.place) ps ≡ map (λ (x : Place × LeafValue). x.0) (map (place_and_leaf value) ps)
     places_found [] = refl
     places_found (x ∷ ps) = ap (λ l. x.place ∷ l) (places_found ps)

@@ -1,245 +1,205 @@
--- The recursion over statements keeps leaves of the kind, and Nothing.
-use Rattle.std.proofs.Common.{◌≡◌, ℕ, zero, suc, ◌+◌, ◌<◌, Bool, true, false, if◌then◌else◌, nat_lt, List, refl, ap, sym, ◌∙◌, subst, ℤ, inl, inr}
-use Rattle.c_tree.specs.Tree.{Term, Code, Done, Assign, Input, Assert, If, While, Block, Skip, Cond}
+-- The heads of an analysis: leaves of the kind, and what enters their loops and comes from their laps is below them.
+use Rattle.std.proofs.Common.{◌≡◌, ℕ, zero, suc, ◌+◌, Bool, true, false, if◌then◌else◌, nat_lt, List, refl, ap, sym, ◌∙◌, ℤ, inl, inr}
+use Rattle.fam_outer.specs.declared.faults.Place.{Place}
+use Rattle.c_tree.specs.Tree.{Term, Code, Done, Assign, Input, Assert, If, While, Do, Leave, Block, Skip, Cond}
 use Rattle.c_tree.specs.Fit.{IsTermOf, IsCodeOf}
-use Rattle.leaf_domain.specs.Leaves.{LeafValue, LeafMeaning, LeafLaws, Alike, IsLeafLike, nothing_of, is_nothing_of}
-use Rattle.leaf_domain.specs.Transfer.{assumed, assigned, forgotten}
-use Rattle.leaf_domain.specs.Soundness.{Suits, TransferAnswers}
+use Rattle.leaf_domain.specs.Leaves.{LeafValue, LeafMeaning, LeafLaws, IsLeafLike, nothing_of, is_nothing_of}
+use Rattle.leaf_domain.specs.Soundness.{TransferAnswers}
+use Rattle.leaf_domain.proofs.AtNothing.{nothing_is}
 use Rattle.plain_analysis.specs.declared.options.Options.{Options}
 use Rattle.plain_analysis.specs.Loops.{turn_of, round_of, rounds_of, round_count, narrowing_of, narrowings_of, widened_leaf, final_leaf}
-use Rattle.plain_analysis.specs.Statements.{after_of, lap_of}
-use Rattle.plain_analysis.specs.Promises.{LoopsSettle, FinalsAreInductive}
-use Rattle.leaf_domain.proofs.Answered.{answers_self, answers_then}
-use Rattle.leaf_domain.proofs.AtNothing.{nothing_is}
-use Rattle.plain_analysis.proofs.JoinLemmas.{join_answer}
-use Rattle.plain_analysis.proofs.Rounds.{rounds_stay}
-use Rattle.plain_analysis.proofs.Settles.{first_phase_settles, leq_content}
+use Rattle.plain_analysis.specs.Promises.{LoopsSettle, FinalsAreInductive, IsHeld, AreHeld}
+use Rattle.plain_analysis.specs.Stated.{ArePartsOf}
+use Rattle.plain_analysis.specs.Statements.{Heads, LoopParts, TestFirst, TestLast, through_body, final_heads, after_of, lap_of}
+use Rattle.plain_analysis.specs.Ways.{Ways}
+use Rattle.plain_analysis.proofs.Kept.{IsLeaf, AreLeaves, answered, like, alike, join_leaf, onto_leaves, enter_leaves, going_on_leaf, loop_leaves, assumed_leaf, assigned_leaf, forgotten_leaf, leave_kept, passed_kept}
+use Rattle.plain_analysis.proofs.Nothing.{nothing_value, lap_nothing}
+use Rattle.plain_analysis.proofs.Settles.{first_phase_settles}
+
+-- a function from leaves of n variables to such leaves
+pub Keeps : LeafMeaning → ℕ → (LeafValue → LeafValue) → Type 0
+Keeps M n f = (x : LeafValue) → IsLeaf M n x → IsLeaf M n (f x)
+
+-- ---- a loop with any lap
+
+module _ (M : LeafMeaning) (laws : LeafLaws M) (n : ℕ) where
+  join_nothings : (a b : LeafValue) → IsLeaf M n a → IsLeaf M n b → is_nothing_of a ≡ true → is_nothing_of b ≡ true → is_nothing_of (M.join a b) ≡ true
+  join_nothings a b h k e f =
+      ap (λ v. is_nothing_of (M.join v b)) (nothing_is a.variables a.content e ∙ ap nothing_of (h.count ∙ sym k.count)) ∙ ap is_nothing_of (laws.join_nothing b) ∙ f
+
+  module _ (ts : List ℤ) (delay : ℕ) (G : LeafValue → LeafValue) (keeps : Keeps M n G) where
+    round_keeps : (k : ℕ) → Keeps M n (round_of M ts delay G k)
+    unfolding Keeps
+    round_keeps k x h = by_tests (M.leq (G x) x) (nat_lt k delay)
+      where
+        by_tests : (t u : Bool) → IsLeaf M n (if t then x else (if u then M.join x (G x) else M.widen ts x (G x)))
+        by_tests true u = h
+        by_tests false true = join_leaf M laws n x (G x) h (keeps x h)
+        by_tests false false = answered M laws n x _ h (laws.widen_answers ts x (G x) (alike M laws n x (G x) h (keeps x h)))
+
+    rounds_keep : (m k : ℕ) → Keeps M n (rounds_of M ts delay G m k)
+    unfolding Keeps
+    rounds_keep zero k x h = h
+    rounds_keep (suc m) k x h = rounds_keep m (k + 1) (round_of M ts delay G k x) (round_keeps k x h)
+
+    narrowing_keeps : Keeps M n (narrowing_of M ts G)
+    unfolding Keeps
+    narrowing_keeps x h = by_test (M.leq (G (M.narrow ts x (G x))) (M.narrow ts x (G x)))
+      where
+        by_test : (t : Bool) → IsLeaf M n (if t then M.narrow ts x (G x) else x)
+        by_test true = answered M laws n x _ h (laws.narrow_answers ts x (G x) (alike M laws n x (G x) h (keeps x h)))
+        by_test false = h
+
+    narrowings_keep : (m : ℕ) → Keeps M n (narrowings_of M ts G m)
+    unfolding Keeps
+    narrowings_keep zero x h = h
+    narrowings_keep (suc m) x h = narrowings_keep m (narrowing_of M ts G x) (narrowing_keeps x h)
+
+    -- narrowing keeps a stable leaf stable
+    narrowings_settle : (m : ℕ) (x : LeafValue) → M.leq (G x) x ≡ true → M.leq (G (narrowings_of M ts G m x)) (narrowings_of M ts G m x) ≡ true
+    narrowings_settle zero x e = e
+    narrowings_settle (suc m) x e = narrowings_settle m (narrowing_of M ts G x) (by_test (M.leq (G (M.narrow ts x (G x))) (M.narrow ts x (G x))) refl)
+      where
+        by_test : (t : Bool) → M.leq (G (M.narrow ts x (G x))) (M.narrow ts x (G x)) ≡ t → M.leq (G (if t then M.narrow ts x (G x) else x)) (if t then M.narrow ts x (G x) else x) ≡ true
+        by_test true f = f
+        by_test false f = e
+
+  module _ (o : Options) (f : LeafValue → LeafValue) (keeps : Keeps M n f) (d : LeafValue) (l : IsLeaf M n d) where
+    abbrev turn : LeafValue → LeafValue
+    turn = turn_of M f d
+
+    turn_keeps : Keeps M n turn
+    unfolding Keeps
+    turn_keeps x h = join_leaf M laws n d (f x) l (keeps x h)
+
+    abbrev widened : LeafValue
+    widened = widened_leaf M o.thresholds o.delay turn d
+
+    pub final_is_leaf : IsLeaf M n (final_leaf M o f d)
+    unfolding Keeps
+    final_is_leaf = narrowings_keep o.thresholds o.delay turn turn_keeps o.narrow widened (rounds_keep o.thresholds o.delay turn turn_keeps (round_count M o.thresholds o.delay d.variables) 0 d l)
+
+    module _ (strict : is_nothing_of d ≡ true → is_nothing_of (f d) ≡ true) where
+      pub widened_settles : M.leq (turn widened) widened ≡ true
+      unfolding Keeps
+      widened_settles =
+          first_phase_settles M laws o.thresholds n o.delay turn
+          (record { answers = λ x h c. let i : IsLeaf M n x = record { valid = h; count = c } in like M laws n x (turn x) i (turn_keeps x i) })
+          d l.valid l.count (λ e. join_nothings d (f d) l (keeps d l) e (strict e))
+
+      pub final_settles : M.leq (turn (final_leaf M o f d)) (final_leaf M o f d) ≡ true
+      final_settles = narrowings_settle o.thresholds o.delay turn turn_keeps o.narrow widened widened_settles
+
+      pub final_is_held : IsHeld M f d (final_leaf M o f d)
+      unfolding Keeps
+      final_is_held =
+          let x = final_leaf M o f d in
+          let b = keeps x final_is_leaf in
+          let joined = alike M laws n d (f x) l b in
+          let compared = alike M laws n (turn x) x (turn_keeps x final_is_leaf) final_is_leaf in
+          record {
+            answers = like M laws n d x l final_is_leaf;
+            entered = λ s p. laws.leq_holds (turn x) x s compared final_settles (laws.join_holds d (f x) s joined (inl p));
+            again = λ s p. laws.leq_holds (turn x) x s compared final_settles (laws.join_holds d (f x) s joined (inr p));
+          }
+
+-- ---- the loops of an analysis
 
 module _ (M : LeafMeaning) (laws : LeafLaws M) (o : Options) (A : TransferAnswers M o.mode) where
-  pub suits : (e : Term) (v : LeafValue) (n : ℕ) → M.valid v → v.variables ≡ n → IsTermOf n e → Suits M e v
-  suits e v n h c t = record { valid = h; term = subst (λ m. IsTermOf m e) (sym c) t }
+  abbrev finals : Heads
+  finals = final_heads M o
 
-  below : (x n : ℕ) (v : LeafValue) → v.variables ≡ n → x < n → x < v.variables
-  below x n v c l = subst (λ m. x < m) (sym c) l
+  -- a lap makes Nothing of Nothing
+  strict : (l : LoopParts) (d : LeafValue) → M.valid d → is_nothing_of d ≡ true → is_nothing_of (lap_of M o l d) ≡ true
+  strict l d h e =
+      ap (λ v. is_nothing_of (lap_of M o l v)) (nothing_value d d.variables e refl)
+      ∙ ap is_nothing_of (lap_nothing M laws o A d.variables (laws.valid_few d h) l)
 
-  join_nothings : (a b : LeafValue) → a.variables ≡ b.variables → is_nothing_of a ≡ true → is_nothing_of b ≡ true → is_nothing_of (M.join a b) ≡ true
-  join_nothings a b c e f = ap (λ v. is_nothing_of (M.join v b)) (nothing_is a.variables a.content e ∙ ap nothing_of c) ∙ ap is_nothing_of (laws.join_nothing b) ∙ f
+  module _ (n : ℕ) where
+    -- statements answer leaves
+    record Answers (c : Code) : Type 0 where
+      fit : IsCodeOf n c
+      held : (w : Ways) → AreLeaves M n w → AreHeld M o.mode finals c w
 
-  narrow_nothings : (a b : LeafValue) → is_nothing_of a ≡ true → is_nothing_of (M.narrow o.thresholds a b) ≡ true
-  narrow_nothings a b e = ap (λ v. is_nothing_of (M.narrow o.thresholds v b)) (nothing_is a.variables a.content e) ∙ laws.narrow_nothing o.thresholds a.variables b
+    answer : (c : Code) (w : Ways) → Answers c → AreLeaves M n w → AreLeaves M n (after_of M o c w)
+    answer c w a h = (passed_kept M laws o.mode A n finals c w h a.fit (a.held w h)).leaves
 
-  narrowings_nothing : (G : LeafValue → LeafValue) (m : ℕ) (x : LeafValue) → is_nothing_of x ≡ true → is_nothing_of (narrowings_of M o.thresholds G m x) ≡ true
-  narrowings_nothing G zero x e = e
-  narrowings_nothing G (suc m) x e = narrowings_nothing G m (narrowing_of M o.thresholds G x) (by_test (M.leq (G (M.narrow o.thresholds x (G x))) (M.narrow o.thresholds x (G x))))
-    where
-      by_test : (t : Bool) → is_nothing_of (if t then M.narrow o.thresholds x (G x) else x) ≡ true
-      by_test true = narrow_nothings x (G x) e
-      by_test false = e
+    first_body : (e : Term) (step body : Code) (x : LeafValue) → IsTermOf n e → Answers body → IsLeaf M n x → AreLeaves M n (through_body M o.mode finals (TestFirst e step body) x)
+    first_body e step body x t b l = answer body _ b (enter_leaves M laws n _ (assumed_leaf M laws o.mode A n e true x l t))
 
-  -- a function from leaves of n variables to such leaves
-  pub Keeps : ℕ → (LeafValue → LeafValue) → Type 0
-  Keeps n f = (x : LeafValue) → M.valid x → x.variables ≡ n → IsLeafLike M x (f x)
-
-  module _ (ts : List ℤ) (n delay : ℕ) (G : LeafValue → LeafValue) (keeps : Keeps n G) where
-    alike : (x : LeafValue) → M.valid x → x.variables ≡ n → Alike M x (G x)
+    first_keeps : (e : Term) (step body : Code) → IsTermOf n e → Answers step → Answers body → Keeps M n (lap_of M o (TestFirst e step body))
     unfolding Keeps
-    alike x h c = let a = keeps x h c in record { first = h; second = a.valid; same = sym a.same }
+    first_keeps e step body t s b x l = (answer step _ s (enter_leaves M laws n _ (going_on_leaf M laws n _ (first_body e step body x t b l)))).behind
 
-    round_answers : (k : ℕ) → Keeps n (round_of M ts delay G k)
+    last_body : (body : Code) (at : Place) (e : Term) (x : LeafValue) → Answers body → IsLeaf M n x → AreLeaves M n (through_body M o.mode finals (TestLast body at e) x)
+    last_body body at e x b l = answer body _ b (enter_leaves M laws n x l)
+
+    last_keeps : (body : Code) (at : Place) (e : Term) → IsTermOf n e → Answers body → Keeps M n (lap_of M o (TestLast body at e))
     unfolding Keeps
-    round_answers k x h c = by_tests (M.leq (G x) x) (nat_lt k delay)
-      where
-        by_tests : (t u : Bool) → IsLeafLike M x (if t then x else (if u then M.join x (G x) else M.widen ts x (G x)))
-        by_tests true u = answers_self x h
-        by_tests false true = laws.join_answers x (G x) (alike x h c)
-        by_tests false false = laws.widen_answers ts x (G x) (alike x h c)
+    last_keeps body at e t b x l = assumed_leaf M laws o.mode A n e true _ (going_on_leaf M laws n _ (last_body body at e x b l)) t
 
-    rounds_answer : (m k : ℕ) → Keeps n (rounds_of M ts delay G m k)
-    unfolding Keeps
-    rounds_answer zero k x h c = answers_self x h
-    rounds_answer (suc m) k x h c =
-        let a = round_answers k x h c in answers_then x _ _ a (rounds_answer m (k + 1) (round_of M ts delay G k x) a.valid (a.same ∙ c))
+    made : (c : Code) → IsCodeOf n c → ((w : Ways) → AreLeaves M n w → AreHeld M o.mode finals c w) → Answers c
+    made c t h = record { fit = t; held = h }
 
-    narrowing_answers : Keeps n (narrowing_of M ts G)
-    unfolding Keeps
-    narrowing_answers x h c = by_test (M.leq (G (M.narrow ts x (G x))) (M.narrow ts x (G x)))
-      where
-        by_test : (t : Bool) → IsLeafLike M x (if t then M.narrow ts x (G x) else x)
-        by_test true = laws.narrow_answers ts x (G x) (alike x h c)
-        by_test false = answers_self x h
+    pub final_heads_hold : (c : Code) (w : Ways) → AreLeaves M n w → IsCodeOf n c → AreHeld M o.mode (final_heads M o) c w
+    final_heads_hold Done w h t = tt
+    final_heads_hold (Assign place x e rest) w h t = final_heads_hold rest _ (onto_leaves M laws n w _ h (assigned_leaf M laws o.mode A n x e w.behind h.behind t.0 t.1)) t.2
+    final_heads_hold (Input place x rest) w h t = final_heads_hold rest _ (onto_leaves M laws n w _ h (forgotten_leaf M laws o.mode A n x w.behind h.behind t.0)) t.1
+    final_heads_hold (Assert place e rest) w h t = final_heads_hold rest _ (onto_leaves M laws n w _ h (assumed_leaf M laws o.mode A n e true w.behind h.behind t.0)) t.1
+    final_heads_hold (If place e p q rest) w h t =
+        let yes_in = onto_leaves M laws n w _ h (assumed_leaf M laws o.mode A n e true w.behind h.behind t.0) in
+        let a = answer p _ (made p t.1 (λ w h. final_heads_hold p w h t.1)) yes_in in
+        let no_in = onto_leaves M laws n _ _ a (assumed_leaf M laws o.mode A n e false w.behind h.behind t.0) in
+        let b = answer q _ (made q t.2 (λ w h. final_heads_hold q w h t.2)) no_in in
+        (final_heads_hold p _ yes_in t.1, final_heads_hold q _ no_in t.2, final_heads_hold rest _ (onto_leaves M laws n _ _ b (join_leaf M laws n _ _ a.behind b.behind)) t.3)
+    final_heads_hold (While place e step body rest) w h t =
+        let l = TestFirst e step body in
+        let keeps = first_keeps e step body t.0 (made step t.1 (λ w h. final_heads_hold step w h t.1)) (made body t.2 (λ w h. final_heads_hold body w h t.2)) in
+        let i = final_is_leaf M laws n o (lap_of M o l) keeps w.behind h.behind in
+        let inside = enter_leaves M laws n _ (assumed_leaf M laws o.mode A n e true _ i t.0) in
+        let b = first_body e step body _ t.0 (made body t.2 (λ w h. final_heads_hold body w h t.2)) i in (
+          final_is_held M laws n o (lap_of M o l) keeps w.behind h.behind (strict l w.behind h.behind.valid),
+          final_heads_hold step _ (enter_leaves M laws n _ (going_on_leaf M laws n _ b)) t.1,
+          final_heads_hold body _ inside t.2,
+          final_heads_hold rest _ (loop_leaves M laws n w _ _ h b (assumed_leaf M laws o.mode A n e false _ i t.0)) t.3,
+        )
+    final_heads_hold (Do place body at e rest) w h t =
+        let l = TestLast body at e in
+        let keeps = last_keeps body at e t.0 (made body t.1 (λ w h. final_heads_hold body w h t.1)) in
+        let i = final_is_leaf M laws n o (lap_of M o l) keeps w.behind h.behind in
+        let b = last_body body at e _ (made body t.1 (λ w h. final_heads_hold body w h t.1)) i in (
+          final_is_held M laws n o (lap_of M o l) keeps w.behind h.behind (strict l w.behind h.behind.valid),
+          final_heads_hold body _ (enter_leaves M laws n _ i) t.1,
+          final_heads_hold rest _ (loop_leaves M laws n w _ _ h b (assumed_leaf M laws o.mode A n e false _ (going_on_leaf M laws n _ b) t.0)) t.2,
+        )
+    final_heads_hold (Leave place jump rest) w h t = final_heads_hold rest _ (leave_kept M laws o.mode A n jump w h t.0).leaves t.1
+    final_heads_hold (Block place body rest) w h t = (final_heads_hold body w h t.0, final_heads_hold rest _ (answer body w (made body t.0 (λ w h. final_heads_hold body w h t.0)) h) t.1)
+    final_heads_hold (Skip place rest) w h t = final_heads_hold rest w h t
+    final_heads_hold (Cond number p q rest) w h t = final_heads_hold rest w h t.2
 
-    narrowings_answer : (m : ℕ) → Keeps n (narrowings_of M ts G m)
-    unfolding Keeps
-    narrowings_answer zero x h c = answers_self x h
-    narrowings_answer (suc m) x h c = let a = narrowing_answers x h c in answers_then x _ _ a (narrowings_answer m (narrowing_of M ts G x) a.valid (a.same ∙ c))
+    part : (c : Code) → IsCodeOf n c → Answers c
+    part c t = made c t (λ w h. final_heads_hold c w h t)
 
-  turn_keeps : (test : Term) (f : LeafValue → LeafValue) (d : LeafValue) → M.valid d → IsTermOf d.variables test → Keeps d.variables f → Keeps d.variables (turn_of M o.mode test f d)
-  unfolding Keeps
-  turn_keeps test f d h t keeps x i c =
-      let a = A.assumed_answers test true x (suits test x d.variables i c t) in
-      let b = keeps (assumed M o.mode test true x) a.valid (a.same ∙ c) in
-      let j = laws.join_answers d (f (assumed M o.mode test true x)) (record { first = h; second = b.valid; same = sym (b.same ∙ a.same ∙ c) }) in
-      record { valid = j.valid; same = j.same ∙ sym c }
+    pub after_answers : (c : Code) (w : Ways) → AreLeaves M n w → IsCodeOf n c → AreLeaves M n (after_of M o c w)
+    after_answers c w h t = answer c w (part c t) h
+
+    pub body_answers : (l : LoopParts) (x : LeafValue) → IsLeaf M n x → ArePartsOf n l → AreLeaves M n (through_body M o.mode (final_heads M o) l x)
+    body_answers (TestFirst e step body) x i t = first_body e step body x t.0 (part body t.2) i
+    body_answers (TestLast body at e) x i t = last_body body at e x (part body t.1) i
+
+    pub lap_keeps : (l : LoopParts) → ArePartsOf n l → Keeps M n (lap_of M o l)
+    lap_keeps (TestFirst e step body) t = first_keeps e step body t.0 (part step t.1) (part body t.2)
+    lap_keeps (TestLast body at e) t = last_keeps body at e t.0 (part body t.1)
+
+  own : (d : LeafValue) → M.valid d → IsLeaf M d.variables d
+  own d h = record { valid = h; count = refl }
 
   -- the final leaf of a loop
-  pub final_answers : (test : Term) (f : LeafValue → LeafValue) (x : LeafValue) → M.valid x → IsTermOf x.variables test → Keeps x.variables f → IsLeafLike M x (final_leaf M o test f x)
-  unfolding Keeps
-  final_answers test f x h t k =
-      let G = turn_of M o.mode test f x in
-      let g = turn_keeps test f x h t k in
-      let w = rounds_answer o.thresholds x.variables o.delay G g (round_count M o.thresholds o.delay x.variables) 0 x h refl in
-      answers_then x _ _ w (narrowings_answer o.thresholds x.variables o.delay G g o.narrow (widened_leaf M o.thresholds o.delay G x) w.valid w.same)
-
-  -- the leaf after a loop
-  loop_answers : (test : Term) (f : LeafValue → LeafValue) (x : LeafValue) → M.valid x → IsTermOf x.variables test → Keeps x.variables f → IsLeafLike M x (assumed M o.mode test false (final_leaf M o test f x))
-  loop_answers test f x h t k =
-      let i = final_answers test f x h t k in
-      answers_then x _ _ i (A.assumed_answers test false (final_leaf M o test f x) (suits test (final_leaf M o test f x) x.variables i.valid i.same t))
-
-  then_keeps : (n : ℕ) (f g : LeafValue → LeafValue) → Keeps n f → Keeps n g → Keeps n (λ u. g (f u))
-  unfolding Keeps
-  then_keeps n f g h k x i c = let a = h x i c in answers_then x (f x) (g (f x)) a (k (f x) a.valid (a.same ∙ c))
-
-  pub after_keeps : (code : Code) (n : ℕ) → IsCodeOf n code → Keeps n (after_of M o code)
-  unfolding Keeps
-  after_keeps Done n over x h c = answers_self x h
-  after_keeps (Assign place y e rest) n over x h c =
-      let a = A.assigned_answers y e x (below y n x c over.0) (suits e x n h c over.1) in
-      answers_then x _ _ a (after_keeps rest n over.2 (assigned M o.mode y e x) a.valid (a.same ∙ c))
-  after_keeps (Input place y rest) n over x h c =
-      let a = A.forgotten_answers y x (below y n x c over.0) h in
-      answers_then x _ _ a (after_keeps rest n over.1 (forgotten M y x) a.valid (a.same ∙ c))
-  after_keeps (Assert place e rest) n over x h c =
-      let a = A.assumed_answers e true x (suits e x n h c over.0) in
-      answers_then x _ _ a (after_keeps rest n over.1 (assumed M o.mode e true x) a.valid (a.same ∙ c))
-  after_keeps (If place e p q rest) n over x h c =
-      let t = A.assumed_answers e true x (suits e x n h c over.0) in
-      let f = A.assumed_answers e false x (suits e x n h c over.0) in
-      let a = answers_then x _ _ t (after_keeps p n over.1 (assumed M o.mode e true x) t.valid (t.same ∙ c)) in
-      let b = answers_then x _ _ f (after_keeps q n over.2 (assumed M o.mode e false x) f.valid (f.same ∙ c)) in
-      let j = join_answer M laws x (after_of M o p (assumed M o.mode e true x)) (after_of M o q (assumed M o.mode e false x)) a b in
-      answers_then x _ _ j (after_keeps rest n over.3 (M.join (after_of M o p (assumed M o.mode e true x)) (after_of M o q (assumed M o.mode e false x))) j.valid (j.same ∙ c))
-  after_keeps (While place e step body rest) n over x h c =
-      let l : Keeps n (lap_of M o step body) = then_keeps n (after_of M o body) (after_of M o step) (after_keeps body n over.2) (after_keeps step n over.1) in
-      let k : Keeps x.variables (lap_of M o step body) = subst (λ m. Keeps m (lap_of M o step body)) (sym c) l in
-      let v = loop_answers e (lap_of M o step body) x h (subst (λ m. IsTermOf m e) (sym c) over.0) k in
-      answers_then x _ _ v (after_keeps rest n over.3 (assumed M o.mode e false (final_leaf M o e (lap_of M o step body) x)) v.valid (v.same ∙ c))
-  after_keeps (Block place body rest) n over x h c =
-      let a = after_keeps body n over.0 x h c in
-      answers_then x _ _ a (after_keeps rest n over.1 (after_of M o body x) a.valid (a.same ∙ c))
-  after_keeps (Skip place rest) n over x h c = after_keeps rest n over x h c
-  after_keeps (Cond number p q rest) n over x h c = after_keeps rest n over.2 x h c
-
-  pub lap_keeps : (step body : Code) (n : ℕ) → IsCodeOf n step → IsCodeOf n body → Keeps n (lap_of M o step body)
-  lap_keeps step body n s b = then_keeps n (after_of M o body) (after_of M o step) (after_keeps body n b) (after_keeps step n s)
-
-  turn_nothing : (test : Term) (f : LeafValue → LeafValue) (d : LeafValue) → is_nothing_of d ≡ true → d.variables ≡ (f d).variables → is_nothing_of (f d) ≡ true → is_nothing_of (turn_of M o.mode test f d d) ≡ true
-  turn_nothing test f d e c k = ap (λ v. is_nothing_of (M.join d (f v))) (A.assumed_of_nothing test true d e) ∙ join_nothings d (f d) c e k
-
-  -- a loop that is entered with Nothing ends with it
-  loop_nothing : (test : Term) (f : LeafValue → LeafValue) (x : LeafValue) → M.valid x → Keeps x.variables f → is_nothing_of x ≡ true → is_nothing_of (f x) ≡ true
-      → is_nothing_of (assumed M o.mode test false (final_leaf M o test f x)) ≡ true
-  unfolding Keeps
-  loop_nothing test f x h k e fe =
-      let G = turn_of M o.mode test f x in
-      let g = turn_nothing test f x e (sym (k x h refl).same) fe in
-      let s = rounds_stay M o.thresholds o.delay G (round_count M o.thresholds o.delay x.variables) 0 x (leq_content M laws _ _ x g) in
-      let w : is_nothing_of (widened_leaf M o.thresholds o.delay G x) ≡ true = ap is_nothing_of s ∙ e in
-      let i = narrowings_nothing G o.narrow (widened_leaf M o.thresholds o.delay G x) w in
-      ap is_nothing_of (A.assumed_of_nothing test false (final_leaf M o test f x) i) ∙ i
-
-  assumed_nothing : (e : Term) (want : Bool) (x : LeafValue) → is_nothing_of x ≡ true → is_nothing_of (assumed M o.mode e want x) ≡ true
-  assumed_nothing e want x n = ap is_nothing_of (A.assumed_of_nothing e want x n) ∙ n
-
-  after_nothing : (code : Code) (n : ℕ) → IsCodeOf n code → (x : LeafValue) → M.valid x → x.variables ≡ n → is_nothing_of x ≡ true → is_nothing_of (after_of M o code x) ≡ true
-  unfolding Keeps
-  after_nothing Done n over x h c z = z
-  after_nothing (Assign place y e rest) n over x h c z =
-      let a = A.assigned_answers y e x (below y n x c over.0) (suits e x n h c over.1) in
-      after_nothing rest n over.2 (assigned M o.mode y e x) a.valid (a.same ∙ c) (A.assigned_of_nothing y e x z)
-  after_nothing (Input place y rest) n over x h c z =
-      let a = A.forgotten_answers y x (below y n x c over.0) h in
-      after_nothing rest n over.1 (forgotten M y x) a.valid (a.same ∙ c) (A.forgotten_of_nothing y x z)
-  after_nothing (Assert place e rest) n over x h c z =
-      let a = A.assumed_answers e true x (suits e x n h c over.0) in
-      after_nothing rest n over.1 (assumed M o.mode e true x) a.valid (a.same ∙ c) (assumed_nothing e true x z)
-  after_nothing (If place e p q rest) n over x h c z =
-      let t = A.assumed_answers e true x (suits e x n h c over.0) in
-      let f = A.assumed_answers e false x (suits e x n h c over.0) in
-      let a = answers_then x _ _ t (after_keeps p n over.1 (assumed M o.mode e true x) t.valid (t.same ∙ c)) in
-      let b = answers_then x _ _ f (after_keeps q n over.2 (assumed M o.mode e false x) f.valid (f.same ∙ c)) in
-      let j = join_answer M laws x (after_of M o p (assumed M o.mode e true x)) (after_of M o q (assumed M o.mode e false x)) a b in
-      after_nothing rest n over.3 (M.join (after_of M o p (assumed M o.mode e true x)) (after_of M o q (assumed M o.mode e false x))) j.valid (j.same ∙ c)
-      (join_nothings (after_of M o p (assumed M o.mode e true x)) (after_of M o q (assumed M o.mode e false x)) (a.same ∙ sym b.same)
-      (after_nothing p n over.1 (assumed M o.mode e true x) t.valid (t.same ∙ c) (assumed_nothing e true x z))
-      (after_nothing q n over.2 (assumed M o.mode e false x) f.valid (f.same ∙ c) (assumed_nothing e false x z)))
-  after_nothing (While place e step body rest) n over x h c z =
-      let k : Keeps x.variables (lap_of M o step body) = subst (λ m. Keeps m (lap_of M o step body)) (sym c) (lap_keeps step body n over.1 over.2) in
-      let v = loop_answers e (lap_of M o step body) x h (subst (λ m. IsTermOf m e) (sym c) over.0) k in
-      let a = after_keeps body n over.2 x h c in
-      after_nothing rest n over.3 (assumed M o.mode e false (final_leaf M o e (lap_of M o step body) x)) v.valid (v.same ∙ c)
-      (loop_nothing e (lap_of M o step body) x h k z (after_nothing step n over.1 (after_of M o body x) a.valid (a.same ∙ c) (after_nothing body n over.2 x h c z)))
-  after_nothing (Block place body rest) n over x h c z =
-      let a = after_keeps body n over.0 x h c in
-      after_nothing rest n over.1 (after_of M o body x) a.valid (a.same ∙ c) (after_nothing body n over.0 x h c z)
-  after_nothing (Skip place rest) n over x h c z = after_nothing rest n over x h c z
-  after_nothing (Cond number p q rest) n over x h c z = after_nothing rest n over.2 x h c z
-
-  lap_nothing : (step body : Code) (n : ℕ) → IsCodeOf n step → IsCodeOf n body → (x : LeafValue) → M.valid x → x.variables ≡ n → is_nothing_of x ≡ true → is_nothing_of (lap_of M o step body x) ≡ true
-  unfolding Keeps
-  lap_nothing step body n s b x h c z =
-      let a = after_keeps body n b x h c in
-      after_nothing step n s (after_of M o body x) a.valid (a.same ∙ c) (after_nothing body n b x h c z)
+  pub final_of_code : (l : LoopParts) (v : LeafValue) → M.valid v → ArePartsOf v.variables l → IsLeafLike M v (final_leaf M o (lap_of M o l) v)
+  final_of_code l v h t = like M laws v.variables v _ (own v h) (final_is_leaf M laws v.variables o (lap_of M o l) (lap_keeps v.variables l t) v (own v h))
 
   pub loops_settle : LoopsSettle M o
-  unfolding Keeps
-  loops_settle test step body d h ot os ob =
-      let lap : LeafValue → LeafValue = lap_of M o step body in
-      let k : Keeps d.variables lap = lap_keeps step body d.variables os ob in
-      let G = turn_of M o.mode test lap d in
-      first_phase_settles M laws o.thresholds d.variables o.delay G (record { answers = turn_keeps test lap d h ot k }) d h refl
-      (λ e. turn_nothing test lap d e (sym (k d h refl).same) (lap_nothing step body d.variables os ob d h refl e))
-
-  -- narrowing keeps a stable leaf stable
-  narrowings_settle : (G : LeafValue → LeafValue) (m : ℕ) (x : LeafValue) → M.leq (G x) x ≡ true → M.leq (G (narrowings_of M o.thresholds G m x)) (narrowings_of M o.thresholds G m x) ≡ true
-  narrowings_settle G zero x e = e
-  narrowings_settle G (suc m) x e = narrowings_settle G m (narrowing_of M o.thresholds G x) (by_test (M.leq (G (M.narrow o.thresholds x (G x))) (M.narrow o.thresholds x (G x))) refl)
-    where
-      by_test : (t : Bool) → M.leq (G (M.narrow o.thresholds x (G x))) (M.narrow o.thresholds x (G x)) ≡ t → M.leq (G (if t then M.narrow o.thresholds x (G x) else x)) (if t then M.narrow o.thresholds x (G x) else x) ≡ true
-      by_test true f = f
-      by_test false f = e
+  loops_settle l d h t = widened_settles M laws d.variables o (lap_of M o l) (lap_keeps d.variables l t) d (own d h) (strict l d h)
 
   pub finals_are_inductive : FinalsAreInductive M o
-  finals_are_inductive test step body d h ot os ob = narrowings_settle (turn_of M o.mode test (lap_of M o step body) d) o.narrow _ (loops_settle test step body d h ot os ob)
-
-  -- a loop's final leaf holds each store with which the loop is entered, and each that comes from a lap
-  pub record Holds (test : Term) (step body : Code) (d : LeafValue) : Type 0 where
-    pub entered : (s : List ℤ) → M.holds d s → M.holds (final_leaf M o test (lap_of M o step body) d) s
-    pub again : (s : List ℤ) → M.holds (lap_of M o step body (assumed M o.mode test true (final_leaf M o test (lap_of M o step body) d))) s → M.holds (final_leaf M o test (lap_of M o step body) d) s
-
-  pub loop_holds : (test : Term) (step body : Code) (d : LeafValue) → M.valid d → IsTermOf d.variables test → IsCodeOf d.variables step → IsCodeOf d.variables body → Holds test step body d
-  unfolding Keeps
-  loop_holds test step body d h ot os ob =
-      let f : LeafValue → LeafValue = lap_of M o step body in
-      let k : Keeps d.variables f = lap_keeps step body d.variables os ob in
-      let G = turn_of M o.mode test f d in
-      let x = final_leaf M o test f d in
-      let i = final_answers test f d h ot k in
-      let a = A.assumed_answers test true x (suits test x d.variables i.valid i.same ot) in
-      let b = k (assumed M o.mode test true x) a.valid (a.same ∙ i.same) in
-      let j = turn_keeps test f d h ot k x i.valid i.same in
-      let joined : Alike M d (f (assumed M o.mode test true x)) = record { first = h; second = b.valid; same = sym (b.same ∙ a.same ∙ i.same) } in
-      let compared : Alike M (G x) x = record { first = j.valid; second = i.valid; same = j.same } in
-      let settled : M.leq (G x) x ≡ true = narrowings_settle G o.narrow (widened_leaf M o.thresholds o.delay G d) (loops_settle test step body d h ot os ob) in
-      record {
-        entered = λ s p. laws.leq_holds _ _ s compared settled (laws.join_holds _ _ s joined (inl p));
-        again = λ s p. laws.leq_holds _ _ s compared settled (laws.join_holds _ _ s joined (inr p));
-      }
-
-  -- the same of code over the leaf's own variables
-  pub after_answers : (c : Code) (v : LeafValue) → M.valid v → IsCodeOf v.variables c → IsLeafLike M v (after_of M o c v)
-  unfolding Keeps
-  after_answers c v h n = after_keeps c v.variables n v h refl
-
-  pub final_of_code : (e : Term) (step body : Code) (v : LeafValue) → M.valid v → IsTermOf v.variables e → IsCodeOf v.variables step → IsCodeOf v.variables body → IsLeafLike M v (final_leaf M o e (lap_of M o step body) v)
-  final_of_code e step body v h t s n = final_answers e (lap_of M o step body) v h t (lap_keeps step body v.variables s n)
+  finals_are_inductive l d h t = final_settles M laws d.variables o (lap_of M o l) (lap_keeps d.variables l t) d (own d h) (strict l d h)

@@ -3,20 +3,16 @@ use Rattle.std.proofs.Common.{◌≡◌, ℕ, List, [], ◌∷◌, ◌++◌, ◌
 use Rattle.std.specs.List.{AllByRecursion}
 use Rattle.std.proofs.lemmas.List.{map-append}
 use Rattle.fam_outer.specs.declared.faults.Place.{Place}
-use Rattle.std.specs.declared.vec.Vec.{Vec}
-use Rattle.std.specs.declared.alloc.Global.{Global}
-use Rattle.c_tree.specs.declared.tree.Expr.{Expr}
 use Rattle.c_tree.specs.declared.tree.Stmt.{Stmt}
-use Rattle.c_tree.specs.declared.tree.Stmt.TheVariants as variant
 use Rattle.c_tree.specs.declared.tree.Stmt.TheOpen as stmt
 use Rattle.c_tree.specs.declared.tree.Stmt.TheOpen.{Stmt-F}
-use Rattle.c_tree.specs.Tree.{Term, Code, Done, Assign, Input, Assert, If, While, Block, Skip, Cond, Whole}
-use Rattle.c_tree.specs.View.{term, front, code}
+use Rattle.c_tree.specs.Tree.{Code, Done, Assign, Input, Assert, If, While, Do, Leave, Block, Skip, Cond, Whole}
+use Rattle.c_tree.specs.View.{front, code}
 use Rattle.c_tree.specs.Places.{places_of, program_places}
 use Rattle.c_tree.specs.Whole.{IsBeforeAll, IsRising}
 use Rattle.c_tree.proofs.Views.{opened, by_layer, code-at}
-use Rattle.plain_analysis.specs.Stated.{Statement, statements_of, statement_in, IsLoopAt, HasLoopsOf}
-use Rattle.plain_analysis.proofs.Listed.{front-If, front-While, front-Block}
+use Rattle.plain_analysis.specs.Stated.{Statement, statements_of, statement_in, alone_of, IsLoopAt, HasLoopsOf}
+use Rattle.plain_analysis.specs.Statements.{LoopParts, TestFirst, TestLast}
 use Rattle.plain_analysis.proofs.Located.{same_place_self, before_other}
 
 -- ---- places that rise are distinct
@@ -54,6 +50,9 @@ places_of_statements (If place e p q rest) =
 places_of_statements (While place e step body rest) =
     ap (λ l. place ∷ l) (both (statements_of step) (statements_of body ++ statements_of rest) _ _ (places_of_statements step)
     (both (statements_of body) (statements_of rest) _ _ (places_of_statements body) (places_of_statements rest)))
+places_of_statements (Do place body at e rest) =
+    ap (λ l. place ∷ l) (both (statements_of body) (_ ∷ statements_of rest) _ _ (places_of_statements body) (ap (λ l. at ∷ l) (places_of_statements rest)))
+places_of_statements (Leave place jump rest) = ap (λ l. place ∷ l) (places_of_statements rest)
 places_of_statements (Block place body rest) =
     ap (λ l. place ∷ l) (both (statements_of body) (statements_of rest) _ _ (places_of_statements body) (places_of_statements rest))
 places_of_statements (Skip place rest) = ap (λ l. place ∷ l) (places_of_statements rest)
@@ -94,6 +93,12 @@ module _ (p : Whole) where
         loops_found body (found_first all (statements_of body) (statements_of rest) behind),
         loops_found rest (found_second all (statements_of body) (statements_of rest) behind),
       )
+  loops_found (Do place body at e rest) h = (
+    record { stands = h.0 },
+    loops_found body (found_first all (statements_of body) (_ ∷ statements_of rest) h.1),
+    loops_found rest (found_second all (statements_of body) (_ ∷ statements_of rest) h.1).1,
+  )
+  loops_found (Leave place jump rest) h = loops_found rest h.1
   loops_found (Block place body rest) h = (
     loops_found body (found_first all (statements_of body) (statements_of rest) h.1),
     loops_found rest (found_second all (statements_of body) (statements_of rest) h.1),
@@ -119,6 +124,8 @@ module _ (p : Whole) where
   loops-opened rest (stmt.Assert place test) h = (tt, h)
   loops-opened rest (stmt.If place test a b) h = ((h.0, h.1, tt), h.2)
   loops-opened rest (stmt.While place test step body) h = ((h.0, h.1, h.2, tt), h.3)
+  loops-opened rest (stmt.Do place body at test) h = ((h.0, h.1, tt), h.2)
+  loops-opened rest (stmt.Leave place jump) h = (tt, h)
   loops-opened rest (stmt.Block place body) h = ((h.0, tt), h.1)
   loops-opened rest (stmt.Skip place) h = (tt, h)
   loops-opened rest (stmt.Cond number a b) h = ((h.0, h.1, tt), h.2)
@@ -129,34 +136,19 @@ module _ (p : Whole) where
   pub loops-at : (list : List Stmt) (i : ℕ) (s : Stmt) → i < length list → s ≡ get_or list i s → HasLoopsOf p (code list) → HasLoopsOf p (front s Done)
   loops-at = code-at (HasLoopsOf p) loops-front
 
-  pub loops_If : (s : Stmt) (place : Place) (e : Expr) (a b : Vec Stmt Global) → s ≡ variant.If place e a b → HasLoopsOf p (front s Done) → HasLoopsOf p (code a.items) × HasLoopsOf p (code b.items)
-  loops_If s place e a b h k =
-      let w : HasLoopsOf p (If place (term e) (code a.items) (code b.items) Done) = subst (HasLoopsOf p) (ap (λ s. front s Done) h ∙ front-If place e a b) k in
-      (w.0, w.1)
-
-  pub loops_While : (s : Stmt) (place : Place) (e : Expr) (step body : Vec Stmt Global) → s ≡ variant.While place e step body → HasLoopsOf p (front s Done)
-      → IsLoopAt p place (term e) (code step.items) (code body.items) × HasLoopsOf p (code step.items) × HasLoopsOf p (code body.items)
-  loops_While s place e step body h k =
-      let w : HasLoopsOf p (While place (term e) (code step.items) (code body.items) Done) = subst (HasLoopsOf p) (ap (λ s. front s Done) h ∙ front-While place e step body) k in
-      (w.0, w.1, w.2)
-
-  pub loops_Block : (s : Stmt) (place : Place) (body : Vec Stmt Global) → s ≡ variant.Block place body → HasLoopsOf p (front s Done) → HasLoopsOf p (code body.items)
-  loops_Block s place body h k =
-      let w : HasLoopsOf p (Block place (code body.items) Done) = subst (HasLoopsOf p) (ap (λ s. front s Done) h ∙ front-Block place body) k in
-      w.0
-
   -- what a list has, a list of the same statements has
   pub loops_same : (l k : List Stmt) → l ≡ k → HasLoopsOf p (code k) → HasLoopsOf p (code l)
   loops_same l k e h = subst (λ x. HasLoopsOf p (code x)) (sym e) h
 
-  pub loop_same : (place : Place) (e : Term) (l k m n : List Stmt) → l ≡ k → m ≡ n → IsLoopAt p place e (code k) (code n) → IsLoopAt p place e (code l) (code m)
-  loop_same place e l k m n f g h = subst (λ x. IsLoopAt p place e (code x) (code m)) (sym f) (subst (λ x. IsLoopAt p place e (code k) (code x)) (sym g) h)
-
 -- at one place stands one loop
-pub one_loop : (p : Whole) (place : Place) (e f : Term) (s t a b : Code) → IsLoopAt p place e s a → IsLoopAt p place f t b → (e ≡ f) × (s ≡ t) × (a ≡ b)
-one_loop p place e f s t a b h k =
-    let same : Some (While place e s a Done) ≡ Some (While place f t b Done) = sym h.stands ∙ k.stands in
-    let test : e ≡ f = cc in
-    let step : s ≡ t = cc in
-    let body : a ≡ b = cc in
-    (test, step, body)
+alone_once : (place : Place) (l k : LoopParts) → alone_of place l ≡ alone_of place k → l ≡ k
+alone_once place (TestFirst e s a) (TestFirst f t b) h = cc
+alone_once place (TestFirst e s a) (TestLast b at f) h = cc
+alone_once place (TestLast a at e) (TestFirst f t b) h = cc
+alone_once place (TestLast a at e) (TestLast b there f) h = cc
+
+pub one_loop : (p : Whole) (place : Place) (l k : LoopParts) → IsLoopAt p place l → IsLoopAt p place k → l ≡ k
+one_loop p place l k h i =
+    let same : Some (alone_of place l) ≡ Some (alone_of place k) = sym h.stands ∙ i.stands in
+    let alone : alone_of place l ≡ alone_of place k = cc in
+    alone_once place l k alone

@@ -1,8 +1,10 @@
 pub mod Loops
+pub mod Ways
 pub mod Statements
 pub mod Places
+pub mod View
+pub mod Stated
 pub mod Promises
 pub mod Entered
 pub mod Heads
-pub mod Stated
 pub mod Finals

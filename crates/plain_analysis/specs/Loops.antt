@@ -1,15 +1,11 @@
 -- What a loop does to a leaf: rounds of joining and widening, and then of checked narrowing.
-use Rattle.std.specs.Prelude.{ℕ, ℤ, Bool, zero, suc, ◌+◌, ◌*◌, true, if◌then◌else◌, nat_lt, List, length}
-use Rattle.c_tree.specs.declared.tree.Mode.{Mode}
-use Rattle.c_tree.specs.Tree.{Term}
+use Rattle.std.specs.Prelude.{ℕ, ℤ, Bool, zero, suc, ◌+◌, ◌*◌, if◌then◌else◌, nat_lt, List, length}
 use Rattle.leaf_domain.specs.Leaves.{LeafValue, LeafMeaning}
-use Rattle.leaf_domain.specs.Transfer.{assumed}
 use Rattle.plain_analysis.specs.declared.options.Options.{Options}
 
--- what comes in at the head of a loop that is entered with d, where the head has x: d, and what a lap, its body and then its
--- step, makes of the stores of x at which the test holds
-abbrev pub turn_of : LeafMeaning → Mode → Term → (LeafValue → LeafValue) → LeafValue → LeafValue → LeafValue
-turn_of M mode test lap d x = M.join d (lap (assumed M mode test true x))
+-- what comes in at the head of a loop that is entered with d, where the head has x: d, and what a lap makes of x
+abbrev pub turn_of : LeafMeaning → (LeafValue → LeafValue) → LeafValue → LeafValue → LeafValue
+turn_of M lap d x = M.join d (lap x)
 
 -- the head of a loop with x, where g comes in: both joined in an early round, and widened in a later one
 abbrev pub moved_by : LeafMeaning → List ℤ → Bool → LeafValue → LeafValue → LeafValue
@@ -49,8 +45,7 @@ abbrev pub narrowings_of : LeafMeaning → List ℤ → (LeafValue → LeafValue
 narrowings_of M ts G zero x = x
 narrowings_of M ts G (suc n) x = narrowings_of M ts G n (narrowing_of M ts G x)
 
--- the final leaf of a loop with this test and lap that is entered with d
-abbrev pub final_leaf : LeafMeaning → Options → Term → (LeafValue → LeafValue) → LeafValue → LeafValue
-final_leaf M o test lap d =
-    narrowings_of M o.thresholds (turn_of M o.mode test lap d) o.narrow
-    (widened_leaf M o.thresholds o.delay (turn_of M o.mode test lap d) d)
+-- the final leaf of a loop with this lap that is entered with d
+abbrev pub final_leaf : LeafMeaning → Options → (LeafValue → LeafValue) → LeafValue → LeafValue
+final_leaf M o lap d =
+    narrowings_of M o.thresholds (turn_of M lap d) o.narrow (widened_leaf M o.thresholds o.delay (turn_of M lap d) d)

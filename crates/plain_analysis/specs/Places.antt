@@ -11,6 +11,7 @@ use Rattle.leaf_domain.specs.Stops.{may_at}
 use Rattle.plain_analysis.specs.declared.alarm.Alarm.{Alarm}
 use Rattle.plain_analysis.specs.declared.options.Options.{Options}
 use Rattle.plain_analysis.specs.Statements.{Heads, Entry, passed, entries_by, final_heads}
+use Rattle.plain_analysis.specs.Ways.{enter, end_of}
 
 abbrev pub is_same_place : Place → Place → Bool
 is_same_place a b = nat_eq a.line b.line && nat_eq a.column b.column
@@ -22,16 +23,16 @@ entry_in (e ∷ es) place = if is_same_place e.place place then Some e else entr
 
 -- the statement of a program at a place, where there is one, in a pass from d
 abbrev pub entry_by : LeafMeaning → Mode → Heads → Whole → LeafValue → Place → Option Entry
-entry_by M mode H p d place = entry_in (entries_by M mode H p.body d) place
+entry_by M mode H p d place = entry_in (entries_by M mode H p.body (enter d)) place
 
 abbrev pub leaf_or : LeafValue → Option Entry → LeafValue
 leaf_or v None = v
 leaf_or v (Some e) = e.leaf
 
--- the leaf at a place in a pass: that of the statement there; at the last brace the leaf after the body; elsewhere Nothing
+-- the leaf at a place in a pass: that of the statement there; at the last brace the leaf at the end; elsewhere Nothing
 abbrev pub at_by : LeafMeaning → Mode → Heads → Whole → LeafValue → Place → LeafValue
 at_by M mode H p d place =
-    leaf_or (if is_same_place p.end place then passed M mode H p.body d else nothing_of d.variables) (entry_by M mode H p d place)
+    leaf_or (if is_same_place p.end place then end_of M (passed M mode H p.body (enter d)) else nothing_of d.variables) (entry_by M mode H p d place)
 
 -- the same in an analysis
 abbrev pub at_of : LeafMeaning → Options → Whole → LeafValue → Place → LeafValue

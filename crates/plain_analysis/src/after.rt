@@ -1,86 +1,82 @@
-//! The leaf after statements.
+//! What statements make of the leaf behind what was passed, and of what has left by a jump.
 #![tactic(auto)]
 
 ghost use Rattle.std.specs.Prelude.{◌≡◌, IfOk, OnOk, IfSome, IfNone, true, false};
 ghost use Rattle.c_tree.specs.Tree.{Done};
 ghost use Rattle.c_tree.specs.View.{term, front, code, whole};
 ghost use Rattle.c_tree.specs.Fit.{IsTermOf};
-ghost use Rattle.leaf_domain.specs.Transfer.{assumed};
 ghost use Rattle.plain_analysis.specs.Finals.{Remembers};
 ghost use Rattle.plain_analysis.specs.Heads.{IsHead, turns_of, final_of};
 ghost use Rattle.plain_analysis.specs.Loops.{widened_leaf, narrowing_of};
 ghost use Rattle.plain_analysis.specs.Stated.{IsPartOf, IsLoopOf};
-ghost use Rattle.plain_analysis.specs.Statements.{after_of};
+ghost use Rattle.plain_analysis.specs.Statements.{after_of, chosen, final_heads, lap_of, through_body, behind_by};
+ghost use Rattle.plain_analysis.specs.View.{parts_of, ways_of, AreOver};
 
 use crate::finals::{Entered, Finals, find, remember};
-use crate::loops::Loop;
+use crate::loops::{Loop, Parts};
+use crate::simple::{after_assert, after_assign, after_input};
 use crate::steps::{joined, moved, narrowed_by, round_count};
 use crate::task::Task;
+use crate::testing::{failing, inside};
+use crate::ways::{Ways, behind_loop, enter, exchange, going_on, leave, onto};
 use c_tree::{Expr, Stmt};
 use fam_outer::NoMemory;
-use leaf_domain::{
-    Leaf, assign, assume, equality_is_exact, forget, leaf_is_valid, split, transfer_is_sound,
-};
+use leaf_domain::{Leaf, assume, equality_is_exact, leaf_is_valid, split, transfer_is_sound};
 
-/// The leaf after a list of statements that is entered with `leaf`. Nothing stays Nothing.
+/// What a list of statements makes of what was passed. With Nothing behind, nothing changes.
 #[cycle(after)]
-#[tactic(auto, using(crate::proofs::Listed::entered_lists))]
 pub(crate) fn after_list<L: Leaf>(
     finals: &mut Finals<L>,
     task: &Task<'_>,
     list: &[Stmt],
-    leaf: &L,
-) -> Result<L, NoMemory>
-    requires part { IsPartOf (L.value leaf.now).variables (whole task.now.program.now) (code list.now) }
+    ways: Ways<L>,
+) -> Result<Ways<L>, NoMemory>
+    requires over { AreOver L.value (L.value ways.behind).variables ways }
+    requires part { IsPartOf (L.value ways.behind).variables (whole task.now.program.now) (code list.now) }
     requires memory { Remembers L.value L.meaning task.now finals.old }
-    ensures value { IfOk result (λ made. L.value made
-        ≡ after_of L.meaning task.now.options.now (code list.now) (L.value leaf.now)) }
-    ensures same { IfOk result (λ made. (L.value made).variables ≡ (L.value leaf.now).variables) }
+    ensures value { IfOk result (λ made. ways_of L.value made
+        ≡ after_of L.meaning task.now.options.now (code list.now) (ways_of L.value ways)) }
+    ensures over { IfOk result (λ made. AreOver L.value (L.value ways.behind).variables made) }
     ensures memory { OnOk result (Remembers L.value L.meaning task.now finals.new) }
 {
     transfer_is_sound::<L>();
-    leaf_is_valid(leaf);
-    if leaf.is_nothing() {
-        return leaf.copy(task.alloc);
+    leaf_is_valid(&ways.behind);
+    if ways.behind.is_nothing() {
+        return Ok(ways);
     }
-    let mut made = leaf.copy(task.alloc)?;
+    let mut made = ways;
     for s in list {
-        made = after_stmt(finals, task, s, &made)?;
+        made = after_stmt(finals, task, s, made)?;
     }
     Ok(made)
 }
 
-/// The leaf after a statement that is entered with `leaf`. Nothing stays Nothing.
+/// What a statement makes of what was passed. With Nothing behind, nothing changes.
 #[cycle(after)]
 fn after_stmt<L: Leaf>(
     finals: &mut Finals<L>,
     task: &Task<'_>,
     s: &Stmt,
-    leaf: &L,
-) -> Result<L, NoMemory>
-    requires part { IsPartOf (L.value leaf.now).variables (whole task.now.program.now) (front s.now Done) }
+    ways: Ways<L>,
+) -> Result<Ways<L>, NoMemory>
+    requires over { AreOver L.value (L.value ways.behind).variables ways }
+    requires part { IsPartOf (L.value ways.behind).variables (whole task.now.program.now) (front s.now Done) }
     requires memory { Remembers L.value L.meaning task.now finals.old }
-    ensures value { IfOk result (λ made. L.value made
-        ≡ after_of L.meaning task.now.options.now (front s.now Done) (L.value leaf.now)) }
-    ensures same { IfOk result (λ made. (L.value made).variables ≡ (L.value leaf.now).variables) }
+    ensures value { IfOk result (λ made. ways_of L.value made
+        ≡ after_of L.meaning task.now.options.now (front s.now Done) (ways_of L.value ways)) }
+    ensures over { IfOk result (λ made. AreOver L.value (L.value ways.behind).variables made) }
     ensures memory { OnOk result (Remembers L.value L.meaning task.now finals.new) }
 {
     transfer_is_sound::<L>();
-    leaf_is_valid(leaf);
-    if leaf.is_nothing() {
-        return leaf.copy(task.alloc);
+    leaf_is_valid(&ways.behind);
+    if ways.behind.is_nothing() {
+        return Ok(ways);
     }
     match s {
-        Stmt::Assign { target, value, .. } => assign(
-            task.alloc,
-            leaf,
-            *target,
-            value,
-            task.options.mode,
-        ),
-        Stmt::Input { target, .. } => forget(task.alloc, leaf, *target),
-        Stmt::Assert { test, .. } => assume(task.alloc, leaf, test, true, task.options.mode),
-        Stmt::If { test, yes, no, .. } => after_choice(finals, task, yes, no, test, leaf),
+        Stmt::Assign { target, value, .. } => after_assign(task, *target, value, ways),
+        Stmt::Input { target, .. } => after_input(task, *target, ways),
+        Stmt::Assert { test, .. } => after_assert(task, test, ways),
+        Stmt::If { test, yes, no, .. } => after_choice(finals, task, yes, no, test, ways),
         Stmt::While {
             place,
             test,
@@ -89,19 +85,33 @@ fn after_stmt<L: Leaf>(
         } => {
             let the_loop = Loop {
                 place: *place,
-                test,
-                step,
-                body,
+                parts: Parts::TestFirst { test, step, body },
             };
-            let last = final_leaf(finals, task, &the_loop, leaf)?;
-            assume(task.alloc, &last, test, false, task.options.mode)
+            after_loop(finals, task, &the_loop, ways)
         }
-        Stmt::Block { body, .. } => after_list(finals, task, body, leaf),
-        Stmt::Skip { .. } | Stmt::Cond { .. } => leaf.copy(task.alloc),
+        Stmt::Do {
+            place,
+            body,
+            test_place,
+            test,
+        } => {
+            let the_loop = Loop {
+                place: *place,
+                parts: Parts::TestLast {
+                    body,
+                    test_place: *test_place,
+                    test,
+                },
+            };
+            after_loop(finals, task, &the_loop, ways)
+        }
+        Stmt::Leave { jump, .. } => leave(task.alloc, task.options.mode, jump, ways),
+        Stmt::Block { body, .. } => after_list(finals, task, body, ways),
+        Stmt::Skip { .. } | Stmt::Cond { .. } => Ok(ways),
     }
 }
 
-/// The leaf after two lists of statements, of which the first is entered where a test is not 0, and the second where it is.
+/// What both sides of a test make of what was passed, one after the other.
 #[cycle(after)]
 fn after_choice<L: Leaf>(
     finals: &mut Finals<L>,
@@ -109,45 +119,97 @@ fn after_choice<L: Leaf>(
     yes: &[Stmt],
     no: &[Stmt],
     test: &Expr,
-    leaf: &L,
-) -> Result<L, NoMemory>
-    requires test { IsTermOf (L.value leaf.now).variables (term test.now) }
-    requires yes { IsPartOf (L.value leaf.now).variables (whole task.now.program.now) (code yes.now) }
-    requires no { IsPartOf (L.value leaf.now).variables (whole task.now.program.now) (code no.now) }
+    ways: Ways<L>,
+) -> Result<Ways<L>, NoMemory>
+    requires over { AreOver L.value (L.value ways.behind).variables ways }
+    requires test { IsTermOf (L.value ways.behind).variables (term test.now) }
+    requires yes { IsPartOf (L.value ways.behind).variables (whole task.now.program.now) (code yes.now) }
+    requires no { IsPartOf (L.value ways.behind).variables (whole task.now.program.now) (code no.now) }
     requires memory { Remembers L.value L.meaning task.now finals.old }
-    ensures value { IfOk result (λ made. L.value made ≡ L.meaning.join
-        (after_of L.meaning task.now.options.now (code yes.now) (assumed L.meaning task.now.options.now.mode (term test.now) true (L.value leaf.now)))
-        (after_of L.meaning task.now.options.now (code no.now) (assumed L.meaning task.now.options.now.mode (term test.now) false (L.value leaf.now)))) }
-    ensures same { IfOk result (λ made. (L.value made).variables ≡ (L.value leaf.now).variables) }
+    ensures value { IfOk result (λ made. ways_of L.value made
+        ≡ chosen L.meaning task.now.options.now.mode (final_heads L.meaning task.now.options.now)
+        (term test.now) (code yes.now) (code no.now) (ways_of L.value ways)) }
+    ensures over { IfOk result (λ made. AreOver L.value (L.value ways.behind).variables made) }
     ensures memory { OnOk result (Remembers L.value L.meaning task.now finals.new) }
 {
-    let sides = split(task.alloc, leaf, test, task.options.mode)?;
-    let after_yes = after_list(finals, task, yes, &sides.when_true)?;
-    let after_no = after_list(finals, task, no, &sides.when_false)?;
-    joined(task.alloc, &after_yes, &after_no)
+    let sides = split(task.alloc, &ways.behind, test, task.options.mode)?;
+    let after_yes = after_list(finals, task, yes, onto(ways, sides.when_true))?;
+    let exchanged = exchange(after_yes, sides.when_false);
+    let after_no = after_list(finals, task, no, exchanged.ways)?;
+    let behind = joined(task.alloc, &exchanged.before, &after_no.behind)?;
+    Ok(onto(after_no, behind))
 }
 
-/// The leaf after a list of statements that is entered where a test is not 0, or is 0.
+/// What a loop makes of what was passed: its body is passed once more, from its final leaf.
 #[cycle(after)]
-fn after_side<L: Leaf>(
+fn after_loop<L: Leaf>(
     finals: &mut Finals<L>,
     task: &Task<'_>,
-    list: &[Stmt],
-    test: &Expr,
-    want: bool,
-    leaf: &L,
-) -> Result<L, NoMemory>
-    requires test { IsTermOf (L.value leaf.now).variables (term test.now) }
-    requires part { IsPartOf (L.value leaf.now).variables (whole task.now.program.now) (code list.now) }
+    the_loop: &Loop<'_>,
+    ways: Ways<L>,
+) -> Result<Ways<L>, NoMemory>
+    requires over { AreOver L.value (L.value ways.behind).variables ways }
+    requires own { IsLoopOf (L.value ways.behind).variables (whole task.now.program.now) the_loop.now }
     requires memory { Remembers L.value L.meaning task.now finals.old }
-    ensures value { IfOk result (λ made. L.value made
-        ≡ after_of L.meaning task.now.options.now (code list.now)
-        (assumed L.meaning task.now.options.now.mode (term test.now) want (L.value leaf.now))) }
-    ensures same { IfOk result (λ made. (L.value made).variables ≡ (L.value leaf.now).variables) }
+    ensures value { IfOk result (λ made. ways_of L.value made
+        ≡ behind_by L.meaning task.now.options.now.mode (final_heads L.meaning task.now.options.now)
+        (parts_of the_loop.now.parts) (ways_of L.value ways)
+        (final_of L.meaning task.now.options.now the_loop.now (L.value ways.behind))) }
+    ensures over { IfOk result (λ made. AreOver L.value (L.value ways.behind).variables made) }
     ensures memory { OnOk result (Remembers L.value L.meaning task.now finals.new) }
 {
-    let inside = assume(task.alloc, leaf, test, want, task.options.mode)?;
-    after_list(finals, task, list, &inside)
+    let last = final_leaf(finals, task, the_loop, &ways.behind)?;
+    let left = through_body(finals, task, the_loop, &last)?;
+    let failed = failing(task, the_loop, &last, &left)?;
+    behind_loop(task.alloc, ways, failed, &left)
+}
+
+/// What the body of a loop makes of the leaf at the loop's head.
+#[cycle(after)]
+fn through_body<L: Leaf>(
+    finals: &mut Finals<L>,
+    task: &Task<'_>,
+    the_loop: &Loop<'_>,
+    at: &L,
+) -> Result<Ways<L>, NoMemory>
+    requires own { IsLoopOf (L.value at.now).variables (whole task.now.program.now) the_loop.now }
+    requires memory { Remembers L.value L.meaning task.now finals.old }
+    ensures value { IfOk result (λ made. ways_of L.value made
+        ≡ through_body L.meaning task.now.options.now.mode (final_heads L.meaning task.now.options.now)
+        (parts_of the_loop.now.parts) (L.value at.now)) }
+    ensures over { IfOk result (λ made. AreOver L.value (L.value at.now).variables made) }
+    ensures memory { OnOk result (Remembers L.value L.meaning task.now finals.new) }
+{
+    let entered = inside(task, the_loop, at)?;
+    let start = enter(task.alloc, entered)?;
+    after_list(finals, task, the_loop.body(), start)
+}
+
+/// What a lap makes of the leaf at the head of a loop: behind the body the step comes, or the test holds.
+#[cycle(after)]
+fn lap<L: Leaf>(
+    finals: &mut Finals<L>,
+    task: &Task<'_>,
+    the_loop: &Loop<'_>,
+    at: &L,
+) -> Result<L, NoMemory>
+    requires own { IsLoopOf (L.value at.now).variables (whole task.now.program.now) the_loop.now }
+    requires memory { Remembers L.value L.meaning task.now finals.old }
+    ensures value { IfOk result (λ made. L.value made
+        ≡ lap_of L.meaning task.now.options.now (parts_of the_loop.now.parts) (L.value at.now)) }
+    ensures same { IfOk result (λ made. (L.value made).variables ≡ (L.value at.now).variables) }
+    ensures memory { OnOk result (Remembers L.value L.meaning task.now finals.new) }
+{
+    let left = through_body(finals, task, the_loop, at)?;
+    let on = going_on(task.alloc, &left)?;
+    match the_loop.parts {
+        Parts::TestFirst { step, .. } => {
+            let start = enter(task.alloc, on)?;
+            let stepped = after_list(finals, task, step, start)?;
+            Ok(stepped.behind)
+        }
+        Parts::TestLast { test, .. } => assume(task.alloc, &on, test, true, task.options.mode),
+    }
 }
 
 /// The leaf at the head of a loop, and what comes in there with it.
@@ -174,8 +236,7 @@ fn turn<L: Leaf>(
     ensures same { IfOk result (λ made. (L.value made).variables ≡ (L.value leaf.now).variables) }
     ensures memory { OnOk result (Remembers L.value L.meaning task.now finals.new) }
 {
-    let behind = after_side(finals, task, the_loop.body, the_loop.test, true, at)?;
-    let again = after_list(finals, task, the_loop.step, &behind)?;
+    let again = lap(finals, task, the_loop, at)?;
     joined(task.alloc, leaf, &again)
 }
 

@@ -14,6 +14,7 @@ use crate::finals::Finals;
 use crate::findings::{Findings, PlaceLeaf, PlaceLeaves};
 use crate::options::Options;
 use crate::task::Task;
+use crate::ways::{end, enter};
 use c_tree::Program;
 use fam_outer::NoMemory;
 use indexmap::IndexMap;
@@ -27,8 +28,13 @@ use std::alloc::Global;
 /// it is the loop's final leaf: the one after `delay` rounds of joining, so many rounds of widening
 /// to the thresholds that what comes in at the head is then below it, and `narrow` rounds of
 /// narrowing, where a candidate is taken only if what comes in with it is below it. So what comes in
-/// at the head is below the final leaf too. In the body, and behind it in the step, it is the leaf
-/// of one more pass from there, and at the end the leaf after the whole body of `main`.
+/// at the head is below the final leaf too: what enters the loop, and what its body, left at its end
+/// or by a `continue`, and then its step or the test that stands last make of the head's leaf. In the
+/// body, and behind it in the step or at the test that stands last, it is the leaf of one more pass
+/// from there. Behind a loop it is the leaf where the test fails, joined with what leaves the body by
+/// a `break`. Behind a jump in a list it is Nothing, up to where paths meet. At the end it is the leaf
+/// behind the whole body of `main`, joined with what leaves it by a `return`, or by a jump outside
+/// loops, which the readers refuse.
 ///
 /// An alarm stands at a place and with a kind exactly where the statement there may stop with the
 /// kind by its leaf; alarms come by place and then by kind. In the mode of the options and for each
@@ -67,7 +73,10 @@ pub fn analyse_one<L: Leaf>(
         program,
         options,
     };
-    let leaf = enter_list(&mut finals, &mut noted, &task, &program.body, start)?;
+    let entered = start.copy(alloc)?;
+    let ways = enter(alloc, entered)?;
+    let left = enter_list(&mut finals, &mut noted, &task, &program.body, ways)?;
+    let leaf = end(alloc, left)?;
     let place = program.end;
     noted.places.push(PlaceLeaf { place, leaf })?;
     Ok(Findings {

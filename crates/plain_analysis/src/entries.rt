@@ -2,27 +2,31 @@
 #![tactic(auto)]
 
 ghost use Rattle.std.specs.Prelude.{◌≡◌, ◌++◌, ◌∷◌, [], map, IfOk, OnOk};
-ghost use Rattle.c_tree.specs.Tree.{Done};
+ghost use Rattle.c_tree.specs.Tree.{Done, If};
 ghost use Rattle.c_tree.specs.View.{term, front, code, whole};
 ghost use Rattle.c_tree.specs.Fit.{IsTermOf, IsCodeOf};
-ghost use Rattle.leaf_domain.specs.Transfer.{assumed};
 ghost use Rattle.leaf_domain.specs.Stops.{may_at};
 ghost use Rattle.plain_analysis.specs.Finals.{Remembers};
 ghost use Rattle.plain_analysis.specs.Stated.{IsPartOf, IsLoopOf};
-ghost use Rattle.plain_analysis.specs.Statements.{after_of, entries_of, lap_entries};
+ghost use Rattle.plain_analysis.specs.Heads.{final_of};
+ghost use Rattle.plain_analysis.specs.Statements.{after_of, entries_of, choice_entries, lap_entries, chosen, final_heads, through_body, behind_by};
 ghost use Rattle.plain_analysis.specs.Places.{alarm_where};
 ghost use Rattle.plain_analysis.specs.Entered.{place_and_leaf, HasEntered};
+ghost use Rattle.plain_analysis.specs.View.{parts_of, ways_of, AreOver};
 
 use crate::after::final_leaf;
 use crate::alarm::Alarm;
 use crate::finals::Finals;
 use crate::findings::PlaceLeaf;
-use crate::loops::Loop;
+use crate::loops::{Loop, Parts};
+use crate::simple::{after_assert, after_assign, after_input};
 use crate::steps::joined;
 use crate::task::Task;
+use crate::testing::{failing, inside};
+use crate::ways::{Ways, behind_loop, enter, exchange, going_on, leave, onto};
 use c_tree::{Expr, Kind, Stmt};
 use fam_outer::{NoMemory, Place};
-use leaf_domain::{Leaf, assign, assume, forget, may};
+use leaf_domain::{Leaf, may, may_stop, split};
 use std::alloc::Global;
 
 /// The leaves and alarms noted so far, in the order of the text.
@@ -93,7 +97,7 @@ fn add_alarm<L: Leaf>(
 }
 
 /// Adds the leaf with which a statement is entered, and its alarms.
-fn enter<L: Leaf>(
+fn note<L: Leaf>(
     noted: &mut Noted<L>,
     task: &Task<'_>,
     s: &Stmt,
@@ -110,48 +114,88 @@ fn enter<L: Leaf>(
     add_alarm(noted, task, s, place, Kind::Assertion, leaf)
 }
 
-/// Enters the statements of a list with `leaf`, and answers the leaf after them.
+/// Adds the alarm of a kind, where a test that stands last may stop with it.
+fn add_test_alarm<L: Leaf>(
+    noted: &mut Noted<L>,
+    task: &Task<'_>,
+    test: &Expr,
+    place: Place,
+    kind: Kind,
+    leaf: &L,
+) -> Result<(), NoMemory>
+    requires { IsTermOf (L.value leaf.now).variables (term test.now) }
+    ensures leaves { OnOk result (noted.new.places.items ≡ noted.old.places.items) }
+    ensures alarms { OnOk result (noted.new.alarms.items
+        ≡ noted.old.alarms.items ++ alarm_where
+        (may_at L.meaning task.now.options.now.mode kind (If place (term test.now) Done Done Done) (L.value leaf.now)) place kind) }
+{
+    if may_stop(task.alloc, leaf, kind, test, task.options.mode)? {
+        noted.alarms.push(Alarm { place, kind })?;
+    }
+    Ok(())
+}
+
+/// Adds the leaf with which a test that stands last is entered, and its alarms.
+fn note_test<L: Leaf>(
+    noted: &mut Noted<L>,
+    task: &Task<'_>,
+    test: &Expr,
+    place: Place,
+    leaf: &L,
+) -> Result<(), NoMemory>
+    requires { IsTermOf (L.value leaf.now).variables (term test.now) }
+    ensures { OnOk result (HasEntered L.value L.meaning task.now.options.now noted.old noted.new
+        (record { place = place; statement = If place (term test.now) Done Done Done; leaf = L.value leaf.now } ∷ [])) }
+{
+    add_leaf(noted, task, place, leaf)?;
+    add_test_alarm(noted, task, test, place, Kind::Overflow, leaf)?;
+    add_test_alarm(noted, task, test, place, Kind::ZeroDivisor, leaf)?;
+    add_test_alarm(noted, task, test, place, Kind::Assertion, leaf)
+}
+
+/// Enters the statements of a list, and answers what they make of what was passed.
 #[cycle(enter)]
 pub(crate) fn enter_list<L: Leaf>(
     finals: &mut Finals<L>,
     noted: &mut Noted<L>,
     task: &Task<'_>,
     list: &[Stmt],
-    leaf: &L,
-) -> Result<L, NoMemory>
-    requires part { IsPartOf (L.value leaf.now).variables (whole task.now.program.now) (code list.now) }
+    ways: Ways<L>,
+) -> Result<Ways<L>, NoMemory>
+    requires over { AreOver L.value (L.value ways.behind).variables ways }
+    requires part { IsPartOf (L.value ways.behind).variables (whole task.now.program.now) (code list.now) }
     requires memory { Remembers L.value L.meaning task.now finals.old }
-    ensures value { IfOk result (λ made. L.value made
-        ≡ after_of L.meaning task.now.options.now (code list.now) (L.value leaf.now)) }
-    ensures same { IfOk result (λ made. (L.value made).variables ≡ (L.value leaf.now).variables) }
+    ensures value { IfOk result (λ made. ways_of L.value made
+        ≡ after_of L.meaning task.now.options.now (code list.now) (ways_of L.value ways)) }
+    ensures over { IfOk result (λ made. AreOver L.value (L.value ways.behind).variables made) }
     ensures entered { OnOk result (HasEntered L.value L.meaning task.now.options.now noted.old noted.new
-        (entries_of L.meaning task.now.options.now (code list.now) (L.value leaf.now))) }
+        (entries_of L.meaning task.now.options.now (code list.now) (ways_of L.value ways))) }
     ensures memory { OnOk result (Remembers L.value L.meaning task.now finals.new) }
 {
-    let mut made = leaf.copy(task.alloc)?;
+    let mut made = ways;
     for s in list {
-        made = enter_stmt(finals, noted, task, s, &made)?;
+        made = enter_stmt(finals, noted, task, s, made)?;
     }
     Ok(made)
 }
 
-/// Enters a statement and those in it with `leaf`, and answers the leaf after it. A loop is entered
-/// with its final leaf, its body once, from there, and its step from behind the body.
+/// Enters a statement and those in it, and answers what they make of what was passed.
 #[cycle(enter)]
 fn enter_stmt<L: Leaf>(
     finals: &mut Finals<L>,
     noted: &mut Noted<L>,
     task: &Task<'_>,
     s: &Stmt,
-    leaf: &L,
-) -> Result<L, NoMemory>
-    requires part { IsPartOf (L.value leaf.now).variables (whole task.now.program.now) (front s.now Done) }
+    ways: Ways<L>,
+) -> Result<Ways<L>, NoMemory>
+    requires over { AreOver L.value (L.value ways.behind).variables ways }
+    requires part { IsPartOf (L.value ways.behind).variables (whole task.now.program.now) (front s.now Done) }
     requires memory { Remembers L.value L.meaning task.now finals.old }
-    ensures value { IfOk result (λ made. L.value made
-        ≡ after_of L.meaning task.now.options.now (front s.now Done) (L.value leaf.now)) }
-    ensures same { IfOk result (λ made. (L.value made).variables ≡ (L.value leaf.now).variables) }
+    ensures value { IfOk result (λ made. ways_of L.value made
+        ≡ after_of L.meaning task.now.options.now (front s.now Done) (ways_of L.value ways)) }
+    ensures over { IfOk result (λ made. AreOver L.value (L.value ways.behind).variables made) }
     ensures entered { OnOk result (HasEntered L.value L.meaning task.now.options.now noted.old noted.new
-        (entries_of L.meaning task.now.options.now (front s.now Done) (L.value leaf.now))) }
+        (entries_of L.meaning task.now.options.now (front s.now Done) (ways_of L.value ways))) }
     ensures memory { OnOk result (Remembers L.value L.meaning task.now finals.new) }
 {
     match s {
@@ -160,16 +204,16 @@ fn enter_stmt<L: Leaf>(
             target,
             value,
         } => {
-            enter(noted, task, s, *place, leaf)?;
-            assign(task.alloc, leaf, *target, value, task.options.mode)
+            note(noted, task, s, *place, &ways.behind)?;
+            after_assign(task, *target, value, ways)
         }
         Stmt::Input { place, target } => {
-            enter(noted, task, s, *place, leaf)?;
-            forget(task.alloc, leaf, *target)
+            note(noted, task, s, *place, &ways.behind)?;
+            after_input(task, *target, ways)
         }
         Stmt::Assert { place, test } => {
-            enter(noted, task, s, *place, leaf)?;
-            assume(task.alloc, leaf, test, true, task.options.mode)
+            note(noted, task, s, *place, &ways.behind)?;
+            after_assert(task, test, ways)
         }
         Stmt::If {
             place,
@@ -177,10 +221,8 @@ fn enter_stmt<L: Leaf>(
             yes,
             no,
         } => {
-            enter(noted, task, s, *place, leaf)?;
-            let after_yes = enter_side(finals, noted, task, yes, test, true, leaf)?;
-            let after_no = enter_side(finals, noted, task, no, test, false, leaf)?;
-            joined(task.alloc, &after_yes, &after_no)
+            note(noted, task, s, *place, &ways.behind)?;
+            enter_choice(finals, noted, task, yes, no, test, ways)
         }
         Stmt::While {
             place,
@@ -190,28 +232,112 @@ fn enter_stmt<L: Leaf>(
         } => {
             let the_loop = Loop {
                 place: *place,
-                test,
-                step,
-                body,
+                parts: Parts::TestFirst { test, step, body },
             };
-            let last = final_leaf(finals, task, &the_loop, leaf)?;
-            enter(noted, task, s, *place, &last)?;
-            enter_lap(finals, noted, task, &the_loop, &last)?;
-            assume(task.alloc, &last, test, false, task.options.mode)
+            enter_loop(finals, noted, task, s, &the_loop, ways)
+        }
+        Stmt::Do {
+            place,
+            body,
+            test_place,
+            test,
+        } => {
+            let the_loop = Loop {
+                place: *place,
+                parts: Parts::TestLast {
+                    body,
+                    test_place: *test_place,
+                    test,
+                },
+            };
+            enter_loop(finals, noted, task, s, &the_loop, ways)
+        }
+        Stmt::Leave { place, jump } => {
+            note(noted, task, s, *place, &ways.behind)?;
+            leave(task.alloc, task.options.mode, jump, ways)
         }
         Stmt::Block { place, body } => {
-            enter(noted, task, s, *place, leaf)?;
-            enter_list(finals, noted, task, body, leaf)
+            note(noted, task, s, *place, &ways.behind)?;
+            enter_list(finals, noted, task, body, ways)
         }
         Stmt::Skip { place } => {
-            enter(noted, task, s, *place, leaf)?;
-            leaf.copy(task.alloc)
+            note(noted, task, s, *place, &ways.behind)?;
+            Ok(ways)
         }
-        Stmt::Cond { .. } => leaf.copy(task.alloc),
+        Stmt::Cond { .. } => Ok(ways),
     }
 }
 
-/// Enters the body of a loop from the leaf at its head, and then its step, which is noted before the body.
+/// Enters both sides of a test, one after the other, and answers what they make of what was passed.
+#[cycle(enter)]
+fn enter_choice<L: Leaf>(
+    finals: &mut Finals<L>,
+    noted: &mut Noted<L>,
+    task: &Task<'_>,
+    yes: &[Stmt],
+    no: &[Stmt],
+    test: &Expr,
+    ways: Ways<L>,
+) -> Result<Ways<L>, NoMemory>
+    requires over { AreOver L.value (L.value ways.behind).variables ways }
+    requires test { IsTermOf (L.value ways.behind).variables (term test.now) }
+    requires yes { IsPartOf (L.value ways.behind).variables (whole task.now.program.now) (code yes.now) }
+    requires no { IsPartOf (L.value ways.behind).variables (whole task.now.program.now) (code no.now) }
+    requires memory { Remembers L.value L.meaning task.now finals.old }
+    ensures value { IfOk result (λ made. ways_of L.value made
+        ≡ chosen L.meaning task.now.options.now.mode (final_heads L.meaning task.now.options.now)
+        (term test.now) (code yes.now) (code no.now) (ways_of L.value ways)) }
+    ensures over { IfOk result (λ made. AreOver L.value (L.value ways.behind).variables made) }
+    ensures entered { OnOk result (HasEntered L.value L.meaning task.now.options.now noted.old noted.new
+        (choice_entries L.meaning task.now.options.now (term test.now) (code yes.now) (code no.now) (ways_of L.value ways))) }
+    ensures memory { OnOk result (Remembers L.value L.meaning task.now finals.new) }
+{
+    let sides = split(task.alloc, &ways.behind, test, task.options.mode)?;
+    let after_yes = enter_list(finals, noted, task, yes, onto(ways, sides.when_true))?;
+    let exchanged = exchange(after_yes, sides.when_false);
+    let after_no = enter_list(finals, noted, task, no, exchanged.ways)?;
+    let behind = joined(task.alloc, &exchanged.before, &after_no.behind)?;
+    Ok(onto(after_no, behind))
+}
+
+/// Enters a loop with its final leaf, and what is in it, and answers what it makes of what was passed.
+#[cycle(enter)]
+fn enter_loop<L: Leaf>(
+    finals: &mut Finals<L>,
+    noted: &mut Noted<L>,
+    task: &Task<'_>,
+    s: &Stmt,
+    the_loop: &Loop<'_>,
+    ways: Ways<L>,
+) -> Result<Ways<L>, NoMemory>
+    requires over { AreOver L.value (L.value ways.behind).variables ways }
+    requires part { IsCodeOf (L.value ways.behind).variables (front s.now Done) }
+    requires own { IsLoopOf (L.value ways.behind).variables (whole task.now.program.now) the_loop.now }
+    requires memory { Remembers L.value L.meaning task.now finals.old }
+    ensures value { IfOk result (λ made. ways_of L.value made
+        ≡ behind_by L.meaning task.now.options.now.mode (final_heads L.meaning task.now.options.now)
+        (parts_of the_loop.now.parts) (ways_of L.value ways)
+        (final_of L.meaning task.now.options.now the_loop.now (L.value ways.behind))) }
+    ensures over { IfOk result (λ made. AreOver L.value (L.value ways.behind).variables made) }
+    ensures entered { OnOk result (HasEntered L.value L.meaning task.now.options.now noted.old noted.new
+        (record {
+          place = the_loop.now.place;
+          statement = front s.now Done;
+          leaf = final_of L.meaning task.now.options.now the_loop.now (L.value ways.behind);
+        }
+        ∷ lap_entries L.meaning task.now.options.now (parts_of the_loop.now.parts)
+        (final_of L.meaning task.now.options.now the_loop.now (L.value ways.behind)))) }
+    ensures memory { OnOk result (Remembers L.value L.meaning task.now finals.new) }
+{
+    let last = final_leaf(finals, task, the_loop, &ways.behind)?;
+    note(noted, task, s, the_loop.place, &last)?;
+    let left = enter_lap(finals, noted, task, the_loop, &last)?;
+    let failed = failing(task, the_loop, &last, &left)?;
+    behind_loop(task.alloc, ways, failed, &left)
+}
+
+/// Enters the body of a loop from the leaf at its head, and its step, which is noted before the body, or the test that stands
+/// last; and answers what the body makes of the head's leaf.
 #[cycle(enter)]
 fn enter_lap<L: Leaf>(
     finals: &mut Finals<L>,
@@ -219,51 +345,38 @@ fn enter_lap<L: Leaf>(
     task: &Task<'_>,
     the_loop: &Loop<'_>,
     head: &L,
-) -> Result<(), NoMemory>
+) -> Result<Ways<L>, NoMemory>
     requires own { IsLoopOf (L.value head.now).variables (whole task.now.program.now) the_loop.now }
     requires memory { Remembers L.value L.meaning task.now finals.old }
+    ensures value { IfOk result (λ made. ways_of L.value made
+        ≡ through_body L.meaning task.now.options.now.mode (final_heads L.meaning task.now.options.now)
+        (parts_of the_loop.now.parts) (L.value head.now)) }
+    ensures over { IfOk result (λ made. AreOver L.value (L.value head.now).variables made) }
     ensures entered { OnOk result (HasEntered L.value L.meaning task.now.options.now noted.old noted.new
-        (lap_entries L.meaning task.now.options.now (term the_loop.now.test.now) (code the_loop.now.step.now) (code the_loop.now.body.now)
-        (L.value head.now))) }
+        (lap_entries L.meaning task.now.options.now (parts_of the_loop.now.parts) (L.value head.now))) }
     ensures memory { OnOk result (Remembers L.value L.meaning task.now finals.new) }
 {
-    let mut in_body = Noted::new(task.alloc);
-    let behind = enter_side(
-        finals,
-        &mut in_body,
-        task,
-        the_loop.body,
-        the_loop.test,
-        true,
-        head,
-    )?;
-    enter_list(finals, noted, task, the_loop.step, &behind)?;
-    noted.append(in_body)
-}
-
-/// Enters the statements of a list where a test is not 0, or is 0, and answers the leaf after them.
-#[cycle(enter)]
-fn enter_side<L: Leaf>(
-    finals: &mut Finals<L>,
-    noted: &mut Noted<L>,
-    task: &Task<'_>,
-    list: &[Stmt],
-    test: &Expr,
-    want: bool,
-    leaf: &L,
-) -> Result<L, NoMemory>
-    requires test { IsTermOf (L.value leaf.now).variables (term test.now) }
-    requires part { IsPartOf (L.value leaf.now).variables (whole task.now.program.now) (code list.now) }
-    requires memory { Remembers L.value L.meaning task.now finals.old }
-    ensures value { IfOk result (λ made. L.value made
-        ≡ after_of L.meaning task.now.options.now (code list.now)
-        (assumed L.meaning task.now.options.now.mode (term test.now) want (L.value leaf.now))) }
-    ensures same { IfOk result (λ made. (L.value made).variables ≡ (L.value leaf.now).variables) }
-    ensures entered { OnOk result (HasEntered L.value L.meaning task.now.options.now noted.old noted.new
-        (entries_of L.meaning task.now.options.now (code list.now)
-        (assumed L.meaning task.now.options.now.mode (term test.now) want (L.value leaf.now)))) }
-    ensures memory { OnOk result (Remembers L.value L.meaning task.now finals.new) }
-{
-    let inside = assume(task.alloc, leaf, test, want, task.options.mode)?;
-    enter_list(finals, noted, task, list, &inside)
+    let entered = inside(task, the_loop, head)?;
+    let start = enter(task.alloc, entered)?;
+    match the_loop.parts {
+        Parts::TestFirst { step, body, .. } => {
+            let mut in_body = Noted::new(task.alloc);
+            let left = enter_list(finals, &mut in_body, task, body, start)?;
+            let on = going_on(task.alloc, &left)?;
+            let stepping = enter(task.alloc, on)?;
+            let _stepped = enter_list(finals, noted, task, step, stepping)?;
+            noted.append(in_body)?;
+            Ok(left)
+        }
+        Parts::TestLast {
+            body,
+            test_place,
+            test,
+        } => {
+            let left = enter_list(finals, noted, task, body, start)?;
+            let on = going_on(task.alloc, &left)?;
+            note_test(noted, task, test, test_place, &on)?;
+            Ok(left)
+        }
+    }
 }

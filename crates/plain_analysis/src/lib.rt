@@ -11,13 +11,17 @@ pub mod findings;
 pub mod laws;
 pub mod loops;
 pub mod options;
+mod simple;
 pub mod steps;
 mod task;
+mod testing;
+pub mod ways;
 
 pub use alarm::{Alarm, Alarms};
 pub use analysis::analyse_one;
 pub use findings::{Findings, PlaceLeaf, PlaceLeaves};
 pub use laws::passes_foresee_runs;
-pub use loops::Loop;
+pub use loops::{Loop, Parts};
 pub use options::Options;
 pub use steps::{joined, moved, narrowed_by, round, round_count};
+pub use ways::Ways;

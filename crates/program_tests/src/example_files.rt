@@ -1,7 +1,7 @@
 //! The example files, and the words of commands on them with what is expected, as `examples/to_tests.sh` writes them.
 
 /// Programs without variants.
-pub(crate) const PROGRAM_FILES: [(&str, &str); 15] = [
+pub(crate) const PROGRAM_FILES: [(&str, &str); 16] = [
     (
         "assertion.c",
         "int level = 900;\nint limit = 1000;\nint main(void)\n{\n    level = level - limit;\n    assert(level > 0 - 200);\n    assert(level >= 0);\n    level = 0;\n}\n",
@@ -51,6 +51,10 @@ pub(crate) const PROGRAM_FILES: [(&str, &str); 15] = [
         "/* The ramp of a stepper motor, in words that such code has: int32_t, and the short forms of assignments. */\n#include <assert.h>\n\nstatic int32_t phase;\nstatic int32_t speed = 1;\nsigned int steps;\n\nint main(void) {\n    steps = input();\n    if (steps < 0 || steps > 1000) steps = 1000;\n    while (steps > 0) {\n        --steps;\n        if (speed < 400) speed *= 2; else speed /= 2;\n        ++phase;\n        phase %= 4;\n        assert(phase >= 0 && phase < 4);\n        assert(speed > 0);\n    }\n    return 0;\n}\n",
     ),
     (
+        "scan.c",
+        "/* Looks for the end of a message of at most 16 bytes, and forgets that it may have none. */\nint byte;\nint at;\n\nint main(void)\n{\n    do {\n        byte = input();\n        if (byte == '\\n')\n            break;\n        at++;\n    } while (at < 16);\n    assert(at < 16);\n    return at;\n}\n",
+    ),
+    (
         "sensor.c",
         "#include <assert.h>\n/* A counter, and a sensor whose value is\n   brought within 0 to 100. */\nextern int input(void);\n\nint count;\nint load;\n\nint main(void)\n{\n    load = input();\n    if (load < 0 || load > 100)\n        load = 0;\n    while (count < 10)\n        count++;\n    assert(count == 10); // narrowing gives 10\n    load = 1000 / load;\n    return 0;\n}\n",
     ),
@@ -80,7 +84,7 @@ pub(crate) const REFUSED_FILES: [(&str, &str); 18] = [
     ),
     (
         "F12.c",
-        "int level;\nint main(void)\n{\n    do\n        level++;\n    while (level < 10);\n}\n",
+        "int level;\nint main(void)\n{\n    unsigned tick = 0;\n    level = tick + 1;\n}\n",
     ),
     (
         "F12_enum.c",
@@ -141,7 +145,7 @@ pub(crate) const REFUSED_FILES: [(&str, &str); 18] = [
 ];
 
 /// Families, with their models and certificates.
-pub(crate) const FAMILY_FILES: [(&str, &str); 12] = [
+pub(crate) const FAMILY_FILES: [(&str, &str); 16] = [
     (
         "filter.c",
         "/* The weight of a filter is a constant of the build, and its number of taps is a feature. */\n#ifdef FAST\n#define WEIGHT 2\n#else\n#define WEIGHT (3)\n#endif\n#define LEAST -100\nint level;\nint sum;\n\nint main(void)\n{\n    level = input();\n    if (level < LEAST || level > 100)\n        level = 0;\n    sum = level * WEIGHT / TAPS;\n    assert(sum < 250);\n}\n",
@@ -151,8 +155,16 @@ pub(crate) const FAMILY_FILES: [(&str, &str); 12] = [
         "// The levels of a controller: a constant has another value in each variant.\n#ifdef FAST\nenum { HIGH = 3 };\n#else\nenum { LOW = 4, HIGH };\n#endif\nint main(void)\n{\n    assert(HIGH < 5);\n}\n",
     ),
     (
+        "packet.c",
+        "/* The payload of a frame is copied, if the frame has a length that it may have. */\n#if CONFIG_MTU >= 1500\n#define MTU 1500\n#elif CONFIG_MTU >= 256\n#define MTU 256\n#else\n#define MTU 64\n#endif\n#ifdef CONFIG_VLAN\n#define HEADER 18\n#else\n#define HEADER 14\n#endif\n#if CONFIG_PAYLOAD >= 1486\n#define ROOM 1486\n#elif CONFIG_PAYLOAD >= 242\n#define ROOM 242\n#else\n#define ROOM 32\n#endif\nint at;\n\nint main(void)\n{\n    int length = input();\n    if (length < HEADER || length > MTU)\n        return -1;\n    int body = length - HEADER;\n#ifdef CONFIG_CHECKSUM\n    if (body < 4)\n        return -1;\n    body -= 4;\n#endif\n#ifdef CONFIG_LENGTH_CHECK\n    if (body > ROOM)\n        return -1;\n#endif\n    for (at = 0; at < body; at++) {\n        assert(HEADER + at < MTU);\n        assert(at < ROOM);\n    }\n    return body;\n}\n",
+    ),
+    (
         "queue.c",
         "#include <assert.h>\n/* a small queue, in many versions */\nextern int input(void);\nint count;\nint tries = 3;\nint logged;\nint load;\n\nint main(void)\n{\n    load = input();\n#if defined(SAFE)\n    if (load < 0 || load > 100)\n        load = 0;\n#elif SIZE >= 8\n    if (load > 1000)\n        load = 1000;\n#endif\n    while (count < 10) {\n        count++;\n#ifdef LOG\n        logged++;\n#endif\n    }\n#ifdef BULK\n    load = load * 2;\n#endif\n#if RETRY && LIMIT > 0\n    while (tries > 0)\n        tries--;\n    assert(tries == 0);\n#endif\n#ifdef FAST\n    count = 100 / tries;\n#else\n    count = 100 / (tries + 1);\n#endif\n    assert(count >= 0);\n    return 0;\n}\n",
+    ),
+    (
+        "retry.c",
+        "/* A block is sent in chunks, each again until it is answered, but not too often. */\nenum { OK, NAK, TIMEOUT };\nint transmit(void);\n\nint main(void)\n{\n    int size = input();\n    int sent = 0, retries = 0, window = CONFIG_WINDOW;\n    if (size < 0 || size > 100000)\n        return -1;\n    while (sent < size) {\n        int chunk = size - sent;\n        if (chunk > window)\n            chunk = window;\n        int answer = transmit();\n        if (answer == OK) {\n            sent += chunk;\n            retries = 0;\n#ifdef CONFIG_GROW\n            if (window < 64)\n                window *= 2;\n#endif\n            continue;\n        }\n#ifdef CONFIG_SHRINK\n        if (answer == NAK)\n            window /= 2;\n#endif\n        retries++;\n        if (retries > CONFIG_RETRIES)\n            return -1;\n        assert(window > 0);\n        assert(retries <= CONFIG_RETRIES);\n    }\n    assert(sent == size);\n    return sent;\n}\n",
     ),
     (
         "ring.c",
@@ -168,8 +180,16 @@ pub(crate) const FAMILY_FILES: [(&str, &str); 12] = [
     ),
     ("levels.json", "{\"features\": [{\"name\": \"FAST\"}]}\n"),
     (
+        "packet.json",
+        "{\"features\":[{\"name\":\"CONFIG_MTU\",\"min\":64,\"max\":1500},{\"name\":\"CONFIG_PAYLOAD\",\"min\":32,\"max\":1486},\n{\"name\":\"CONFIG_VLAN\"},{\"name\":\"CONFIG_CHECKSUM\"},{\"name\":\"CONFIG_LENGTH_CHECK\"}]}\n",
+    ),
+    (
         "queue.json",
         "{\"features\":[{\"name\":\"LOG\"},{\"name\":\"FAST\"},{\"name\":\"RETRY\"},{\"name\":\"SAFE\"},{\"name\":\"BULK\"},\n{\"name\":\"SIZE\",\"min\":1,\"max\":16},{\"name\":\"LIMIT\",\"min\":0,\"max\":5}],\n\"constraints\":[\"!FAST || !SAFE\",\"LIMIT <= SIZE\"]}\n",
+    ),
+    (
+        "retry.json",
+        "{\"features\":[{\"name\":\"CONFIG_WINDOW\",\"min\":1,\"max\":4},{\"name\":\"CONFIG_RETRIES\",\"min\":0,\"max\":2},\n{\"name\":\"CONFIG_GROW\"},{\"name\":\"CONFIG_SHRINK\"}]}\n",
     ),
     (
         "ring.json",
@@ -364,7 +384,7 @@ pub(crate) const REFUSED_FAMILY_FILES: [(&str, &str); 44] = [
 ];
 
 /// The words of each command on a program without variants, with its output and then its line on the error stream.
-pub(crate) const PROGRAMS: [(&str, &str); 37] = [
+pub(crate) const PROGRAMS: [(&str, &str); 38] = [
     ("plain assertion.c", "7:5: assertion\nalarms: 1\n"),
     ("plain digits.c", "alarms: 0\n"),
     (
@@ -390,6 +410,7 @@ pub(crate) const PROGRAMS: [(&str, &str); 37] = [
     ("plain pump.c", "alarms: 0\n"),
     ("plain quiet.c", "alarms: 0\n"),
     ("plain ramp.c", "alarms: 0\n"),
+    ("plain scan.c", "13:5: assertion\nalarms: 1\n"),
     ("plain sensor.c", "17:5: zero-divisor\nalarms: 1\n"),
     ("plain table.c", "9:9: assertion\nalarms: 1\n"),
     ("plain valve.c", "16:5: assertion\nalarms: 1\n"),
@@ -414,7 +435,7 @@ pub(crate) const PROGRAMS: [(&str, &str); 37] = [
 ];
 
 /// Those on families.
-pub(crate) const FAMILIES: [(&str, &str); 14] = [
+pub(crate) const FAMILIES: [(&str, &str); 16] = [
     (
         "analyse --regions=merged filter.json filter.c",
         "17:5: assertion if !FAST && TAPS <= 1; example FAST=0 TAPS=1\nalarms: 1\n",
@@ -422,6 +443,10 @@ pub(crate) const FAMILIES: [(&str, &str); 14] = [
     (
         "invariants levels.json levels.c",
         "9:5: if !FAST: HIGH in [5,5], LOW in [4,4]\n9:5: if FAST: HIGH in [3,3], LOW in [0,0]\n10:1: if !FAST: unreachable\n10:1: if FAST: HIGH in [3,3], LOW in [0,0]\n9:5: assertion if !FAST; example FAST=0\nalarms: 1\n",
+    ),
+    (
+        "analyse --regions=merged packet.json packet.c",
+        "40:9: assertion if CONFIG_MTU <= 255 && CONFIG_PAYLOAD <= 241 && !CONFIG_LENGTH_CHECK; example CONFIG_MTU=64 CONFIG_PAYLOAD=32 CONFIG_VLAN=0 CONFIG_CHECKSUM=0 CONFIG_LENGTH_CHECK=0\n40:9: assertion if CONFIG_MTU >= 256 && CONFIG_MTU <= 1499 && CONFIG_PAYLOAD <= 241 && !CONFIG_LENGTH_CHECK; example CONFIG_MTU=256 CONFIG_PAYLOAD=32 CONFIG_VLAN=0 CONFIG_CHECKSUM=0 CONFIG_LENGTH_CHECK=0\n40:9: assertion if CONFIG_MTU >= 1500 && CONFIG_PAYLOAD <= 1485 && !CONFIG_LENGTH_CHECK; example CONFIG_MTU=1500 CONFIG_PAYLOAD=32 CONFIG_VLAN=0 CONFIG_CHECKSUM=0 CONFIG_LENGTH_CHECK=0\nalarms: 3\n",
     ),
     (
         "advise queue.json queue.c FAST RETRY SIZE=4 LIMIT=2",
@@ -442,6 +467,10 @@ pub(crate) const FAMILIES: [(&str, &str); 14] = [
     (
         "analyse --regions merged queue.json queue.c",
         "22:9: overflow if LOG; example LOG=1 FAST=0 RETRY=0 SAFE=0 BULK=0 SIZE=1 LIMIT=0\n26:5: overflow if !SAFE && BULK; example LOG=0 FAST=0 RETRY=0 SAFE=0 BULK=1 SIZE=1 LIMIT=0\n34:5: zero-divisor if FAST && RETRY && LIMIT >= 1; example LOG=0 FAST=1 RETRY=1 SAFE=0 BULK=0 SIZE=1 LIMIT=1\nalarms: 3\n",
+    ),
+    (
+        "analyse --regions=merged --domain=octagon --widening=thresholds retry.json retry.c",
+        "32:9: assertion if CONFIG_RETRIES >= 1 && CONFIG_SHRINK; example CONFIG_WINDOW=1 CONFIG_RETRIES=1 CONFIG_GROW=0 CONFIG_SHRINK=1\n35:5: assertion if 1; example CONFIG_WINDOW=1 CONFIG_RETRIES=0 CONFIG_GROW=0 CONFIG_SHRINK=0\nalarms: 2\n",
     ),
     (
         "analyse ring.json ring.c",
@@ -474,7 +503,7 @@ pub(crate) const FAMILIES: [(&str, &str); 14] = [
 ];
 
 /// Those on one variant of a family.
-pub(crate) const VARIANTS: [(&str, &str); 12] = [
+pub(crate) const VARIANTS: [(&str, &str); 14] = [
     (
         "project filter.json filter.c FAST TAPS=2",
         "                                                                                             \n\n#define WEIGHT 2\n\n\n\n#define LEAST -100\nint level;\nint sum;\n\nint main(void)\n{\n    level = input();\n    if (level < LEAST || level > 100)\n        level = 0;\n    sum = level * WEIGHT / TAPS;\n    assert(sum < 250);\n}\n",
@@ -482,6 +511,10 @@ pub(crate) const VARIANTS: [(&str, &str); 12] = [
     (
         "run --inputs=-90 filter.json filter.c FAST TAPS=4",
         "ended level=-90 sum=-45 WEIGHT=2 LEAST=-100 TAPS=4\n",
+    ),
+    (
+        "run --inputs=64 packet.json packet.c CONFIG_MTU=64 CONFIG_PAYLOAD=32 CONFIG_LENGTH_CHECK",
+        "ended at=0 length=64 body=50 MTU=64 HEADER=14 ROOM=32\n",
     ),
     (
         "variant queue.json queue.c FAST RETRY SIZE=4 LIMIT=2",
@@ -502,6 +535,10 @@ pub(crate) const VARIANTS: [(&str, &str); 12] = [
     (
         "run queue.json queue.c SAFE SIZE=4 LIMIT=2",
         "waiting 11:5 count=0 tries=3 logged=0 load=0\n",
+    ),
+    (
+        "run --inputs=9,0,1,1,1 retry.json retry.c CONFIG_WINDOW=2 CONFIG_RETRIES=1",
+        "ended size=9 sent=2 retries=2 window=2 chunk=2 answer=1 OK=0 NAK=1 TIMEOUT=2 CONFIG_WINDOW=2 CONFIG_RETRIES=1\n",
     ),
     ("variant ring.json ring.c SLOTS=16", "alarms: 0\n"),
     (

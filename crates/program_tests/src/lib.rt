@@ -19,6 +19,8 @@ mod for_tests;
 #[cfg(test)]
 mod guide_tests;
 #[cfg(test)]
+mod jump_tests;
+#[cfg(test)]
 mod local_tests;
 #[cfg(test)]
 mod plain_tests;

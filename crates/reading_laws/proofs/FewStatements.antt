@@ -2,11 +2,10 @@
 use Rattle.std.proofs.Common.{◌≡◌, ℕ, suc, ◌+◌, ◌≤◌, List, ◌∷◌, ◌++◌, length, subst, sym, ap, ◌∙◌, arith, le_refl}
 use Rattle.std.proofs.lemmas.List.{length-append}
 use Rattle.fam_outer.specs.declared.faults.Place.{Place}
-use Rattle.c_tree.specs.Tree.{Code, Done, Assign, Input, Assert, If, While, Block, Skip, Cond, followed, Whole}
+use Rattle.c_tree.specs.Tree.{Code, Done, Assign, Input, Assert, If, While, Do, Leave, Block, Skip, Cond, followed, Whole}
 use Rattle.c_grammar.specs.declared.items.Item.{Item}
 use Rattle.c_grammar.specs.declared.items.Sign.TheVariants as signs
-use Rattle.c_grammar.specs.Grammar as grammar
-use Rattle.c_grammar.specs.Grammar.{Qualifier, Shape, File, Returns, at}
+use Rattle.c_grammar.specs.Grammar.{Qualifier, Shape, File, at}
 use Rattle.c_grammar.specs.Within as within
 use Rattle.c_grammar.specs.Within.{ChangesWithin, ClauseWithin, LocalWithin, WritesIn, BodyWithin, MainWithin, FormsWithin, SpellsWithin}
 use Rattle.reading_laws.proofs.MadePrograms.{count_of}
@@ -18,6 +17,8 @@ count-followed (Input p x rest) b = omega (arith, count-followed rest b)
 count-followed (Assert p e rest) b = omega (arith, count-followed rest b)
 count-followed (If p e x y rest) b = omega (arith, count-followed rest b)
 count-followed (While p e x y rest) b = omega (arith, count-followed rest b)
+count-followed (Do p x q e rest) b = omega (arith, count-followed rest b)
+count-followed (Leave p j rest) b = omega (arith, count-followed rest b)
 count-followed (Block p x rest) b = omega (arith, count-followed rest b)
 count-followed (Skip p rest) b = omega (arith, count-followed rest b)
 count-followed (Cond n x y rest) b = omega (arith, count-followed rest b)
@@ -104,19 +105,17 @@ counted (within.for p q r z {b} {ts} {us} {vs} {ws} {start} {step} {c} {t} {e} a
     subst (λ (l : ℕ). count_of (followed start (While t e step c Done)) ≤ suc (suc l)) (sym (for_length (at r signs.Semicolon) (at z signs.Close) ts us vs ws))
     (with_loop (count_of (followed start (While t e step c Done))) (count_of start) (count_of step) (count_of c) (length ts) (length us) (length vs) (length ws)
     (count-followed start (While t e step c Done)) (clause_counted a) (clause_counted d) (counted s))
+counted (within.do_while p q r z t {b} {ts} {us} {x} {e} {c} s f) = with_one (count_of c) _ (then_some (count_of c) ts _ (counted s))
+counted (within.break p q) = one_of _
+counted (within.continue p q) = one_of _
+counted (within.return p q f) = one_of _
 counted (within.if_then p q r {b} {ts} {us} {e} {c} f s) = with_none (count_of c) _ (more_of (count_of c) _ (behind_some (count_of c) ts _ (more_of (count_of c) _ (counted s))))
 counted (within.if_else p q r t {b} {ts} {us} {vs} {e} {c} {d} f s u) =
     with_two (count_of c) (count_of d) _
     (more_of (count_of c + count_of d) _ (behind_some (count_of c + count_of d) ts _ (more_of (count_of c + count_of d) _ (two_lists (count_of c) (count_of d) us _ (counted s) (more_of (count_of d) _ (counted u))))))
 
-returned : {vs : List Item} {d : Code} → Returns vs d → count_of d ≤ length vs
-returned grammar.no_return = le_refl 0
-returned (grammar.return p q r n) = one_of _
-
 body_counted : {us : List Item} {c : Code} {p : Place} → BodyWithin us c p → count_of c ≤ length us
-body_counted (within.body p {us} {vs} {ws} {c} {d} s r e) =
-    let rest : List Item = at p signs.RightBrace ∷ ws in
-    subst (λ (n : ℕ). n ≤ length (us ++ (vs ++ rest))) (sym (count-followed c d)) (two_lists (count_of c) (count_of d) us (vs ++ rest) (counted s) (then_some (count_of d) vs rest (returned r)))
+body_counted (within.body p {us} {vs} {c} s e) = then_some (count_of c) us (at p signs.RightBrace ∷ vs) (counted s)
 
 main_counted : {us : List Item} {c : Code} {p : Place} → MainWithin us c p → count_of c ≤ length us
 main_counted (within.main q r s t u {ts} {us} {vs} {c} y o b) =

@@ -69,8 +69,8 @@ any_declaring a b (x ∷ xs) = first_declared a b x.sign x.place xs (any_declari
 
 -- ---- statements
 
-names_hold : (t : List Bool) (before us : List Item) (c : Code) → (w : Writes Listed us c) → BeginsInMain t before → in_scope_at t (before ++ us) ≡ in_scope_at t before ++ targets (holding t (scope_in [] w))
-names_hold t before us c w begins =
+names_hold : (t : List Bool) (i : Bool) (before us : List Item) (c : Code) → (w : Writes (Listed i) us c) → BeginsInMain t before → in_scope_at t (before ++ us) ≡ in_scope_at t before ++ targets (holding t (scope_in [] w))
+names_hold t i before us c w begins =
     let secs : List Section = sections_behind t [] before in
     let held : List ℕ = targets (holding t (scope_in [] w)) in
     let here : kept_here t secs false us ≡ held =
@@ -79,8 +79,8 @@ names_hold t before us c w begins =
     ∙ ap (λ (b : Bool). in_scope_at t before ++ kept_here t secs b us) begins.free
     ∙ ap (λ (ns : List ℕ). in_scope_at t before ++ ns) here
 
-constants_hold : (t : List Bool) (before us : List Item) (c : Code) → (w : Writes Listed us c) → BeginsInMain t before → constants_at t (before ++ us) ≡ constants_at t before ++ targets (holding t (constant_scope_in [] w))
-constants_hold t before us c w begins =
+constants_hold : (t : List Bool) (i : Bool) (before us : List Item) (c : Code) → (w : Writes (Listed i) us c) → BeginsInMain t before → constants_at t (before ++ us) ≡ constants_at t before ++ targets (holding t (constant_scope_in [] w))
+constants_hold t i before us c w begins =
     let secs : List Section = sections_behind t [] before in
     let held : List ℕ = targets (holding t (constant_scope_in [] w)) in
     let d : Bool = declares_behind (of_constants before) in
@@ -94,4 +94,4 @@ constants_hold t before us c w begins =
     ∙ ap (λ (ns : List ℕ). constants_at t before ++ ns) here
 
 pub inner_scopes_hold : InnerScopesHold
-inner_scopes_hold t before us c w begins = record { names = names_hold t before us c w begins; constants = constants_hold t before us c w begins }
+inner_scopes_hold t i before us c w begins = record { names = names_hold t i before us c w begins; constants = constants_hold t i before us c w begins }

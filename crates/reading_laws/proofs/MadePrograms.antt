@@ -5,11 +5,13 @@ use Rattle.fam_outer.specs.declared.faults.Place.{Place}
 use Rattle.c_tree.specs.declared.tree.Expr.{Expr}
 use Rattle.c_tree.specs.declared.tree.Expr.TheVariants as expr
 use Rattle.c_tree.specs.declared.tree.Program.{Program}
+use Rattle.c_tree.specs.declared.tree.Jump as rust
+use Rattle.c_tree.specs.declared.tree.Jump.TheVariants as jumps
 use Rattle.c_tree.specs.declared.tree.Stmt.{Stmt}
 use Rattle.c_tree.specs.declared.tree.Stmt.TheVariants as variant
-use Rattle.c_tree.specs.declared.tree.Stmt.TheViews.{outs-Assign, outs-Input, outs-Assert, outs-If, outs-While, outs-Block, outs-Skip, outs-Cond}
-use Rattle.c_tree.specs.Tree.{Term, Number, Var, Neg, Not, Binary, Code, Done, Assign, Input, Assert, If, While, Block, Skip, Cond, Whole}
-use Rattle.c_tree.specs.View.{term, front, code, whole}
+use Rattle.c_tree.specs.declared.tree.Stmt.TheViews.{outs-Assign, outs-Input, outs-Assert, outs-If, outs-While, outs-Do, outs-Leave, outs-Block, outs-Skip, outs-Cond}
+use Rattle.c_tree.specs.Tree.{Term, Number, Var, Neg, Not, Binary, Jump, Break, Continue, Return, Code, Done, Assign, Input, Assert, If, While, Do, Leave, Block, Skip, Cond, Whole}
+use Rattle.c_tree.specs.View.{term, jump_of, front, code, whole}
 use Rattle.c_tree.proofs.Views.{front_out}
 
 abbrev pub heap : Global
@@ -32,6 +34,15 @@ expr_of (Neg a) = let e = expr_of a in record { made = expr.Neg' block e.made; i
 expr_of (Not a) = let e = expr_of a in record { made = expr.Not' block e.made; is = ap Not e.is }
 expr_of (Binary op a b) = let e = expr_of a in let f = expr_of b in record { made = expr.Binary' op block e.made block f.made; is = λ i. Binary op (e.is i) (f.is i) }
 
+record HasJump (j : Jump) : Type 0 where
+  made : rust.Jump
+  is : jump_of made ≡ j
+
+made_jump : (j : Jump) → HasJump j
+made_jump Break = record { made = jumps.Break; is = refl }
+made_jump Continue = record { made = jumps.Continue; is = refl }
+made_jump (Return e) = let t = expr_of e in record { made = jumps.Return t.made; is = ap Return t.is }
+
 -- ---- lists of statements
 
 -- how many statements stand in a list, with those inside others
@@ -42,6 +53,8 @@ count_of (Input p x rest) = suc (count_of rest)
 count_of (Assert p e rest) = suc (count_of rest)
 count_of (If p e a b rest) = suc (count_of a + (count_of b + count_of rest))
 count_of (While p e a b rest) = suc (count_of a + (count_of b + count_of rest))
+count_of (Do p a q e rest) = suc (count_of a + count_of rest)
+count_of (Leave p j rest) = suc (count_of rest)
 count_of (Block p a rest) = suc (count_of a + count_of rest)
 count_of (Skip p rest) = suc (count_of rest)
 count_of (Cond n a b rest) = suc (count_of a + (count_of b + count_of rest))
@@ -71,6 +84,12 @@ front-If p e v w rest = rw (front_out, outs-If) refl
 
 front-While : (p : Place) (e : Expr) (v w : Vec Stmt Global) (rest : Code) → front (variant.While p e v w) rest ≡ While p (term e) (code v.items) (code w.items) rest
 front-While p e v w rest = rw (front_out, outs-While) refl
+
+front-Do : (p : Place) (v : Vec Stmt Global) (q : Place) (e : Expr) (rest : Code) → front (variant.Do p v q e) rest ≡ Do p (code v.items) q (term e) rest
+front-Do p v q e rest = rw (front_out, outs-Do) refl
+
+front-Leave : (p : Place) (j : rust.Jump) (rest : Code) → front (variant.Leave p j) rest ≡ Leave p (jump_of j) rest
+front-Leave p j rest = rw (front_out, outs-Leave) refl
 
 front-Block : (p : Place) (v : Vec Stmt Global) (rest : Code) → front (variant.Block p v) rest ≡ Block p (code v.items) rest
 front-Block p v rest = rw (front_out, outs-Block) refl
@@ -120,6 +139,16 @@ looped p e a b rest t x j y k r = record {
   few = behind_two (length r.list) (count_of a) (count_of b) (count_of rest) r.few;
 }
 
+repeated : (p : Place) (a : Code) (q : Place) (e : Term) (rest : Code) → HasExpr e → HasList a → count_of a < 2 ^ 63 → HasList rest → HasList (Do p a q e rest)
+repeated p a q e rest t x j r = record {
+  list = variant.Do p (vec a x j) q t.made ∷ r.list;
+  is = front-Do p (vec a x j) q t.made (code r.list) ∙ (λ i. Do p (x.is i) q (t.is i) (r.is i));
+  few = behind_one (length r.list) (count_of a) (count_of rest) r.few;
+}
+
+left : (p : Place) (j : Jump) (rest : Code) → HasJump j → HasList rest → HasList (Leave p j rest)
+left p j rest t r = record { list = variant.Leave p t.made ∷ r.list; is = front-Leave p t.made (code r.list) ∙ (λ i. Leave p (t.is i) (r.is i)); few = one_more (length r.list) (count_of rest) r.few }
+
 braced : (p : Place) (a rest : Code) → HasList a → count_of a < 2 ^ 63 → HasList rest → HasList (Block p a rest)
 braced p a rest x j r = record { list = variant.Block p (vec a x j) ∷ r.list; is = front-Block p (vec a x j) (code r.list) ∙ (λ i. Block p (x.is i) (r.is i)); few = behind_one (length r.list) (count_of a) (count_of rest) r.few }
 
@@ -151,6 +180,8 @@ list_of (If p e a b rest) lt =
 list_of (While p e a b rest) lt =
     let k = of_three (count_of a) (count_of b) (count_of rest) (2 ^ 63) lt in
     looped p e a b rest (expr_of e) (list_of a k.0) k.0 (list_of b k.1) k.1 (list_of rest k.2)
+list_of (Do p a q e rest) lt = let k = of_two (count_of a) (count_of rest) (2 ^ 63) lt in repeated p a q e rest (expr_of e) (list_of a k.0) k.0 (list_of rest k.1)
+list_of (Leave p j rest) lt = left p j rest (made_jump j) (list_of rest (of_one (count_of rest) (2 ^ 63) lt))
 list_of (Block p a rest) lt = let k = of_two (count_of a) (count_of rest) (2 ^ 63) lt in braced p a rest (list_of a k.0) k.0 (list_of rest k.1)
 list_of (Skip p rest) lt = skipped p rest (list_of rest (of_one (count_of rest) (2 ^ 63) lt))
 list_of (Cond n a b rest) lt = let k = of_three (count_of a) (count_of b) (count_of rest) (2 ^ 63) lt in grouped n a b rest (list_of a k.0) k.0 (list_of b k.1) k.1 (list_of rest k.2)

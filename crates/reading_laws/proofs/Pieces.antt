@@ -6,7 +6,7 @@ use Rattle.c_tree.specs.declared.lists.Declared.{Declared}
 use Rattle.c_tree.specs.Tree.{Code}
 use Rattle.c_grammar.specs.declared.items.Item.{Item}
 use Rattle.c_grammar.specs.declared.items.Sign.TheVariants as signs
-use Rattle.c_grammar.specs.Grammar.{at, Qualifier, Qualified, Shape, Listed, Stated, Chained, Locals, Writes, none, more, choice, local, static_local, last_local, next_local, ends, otherwise, elif, change, call, void_call, assert, skip, block, while, for, if_then, if_else, with_true, with_false, Vars, Declares}
+use Rattle.c_grammar.specs.Grammar.{at, Qualifier, Qualified, Shape, Listed, Stated, Chained, Locals, Writes, none, more, choice, local, static_local, last_local, next_local, ends, otherwise, elif, change, call, void_call, assert, skip, block, while, for, do_while, break, continue, return, if_then, if_else, with_true, with_false, Vars, Declares}
 use Rattle.c_grammar.specs.Groups.{guarded_by}
 use Rattle.c_grammar.specs.LocalsOf.{locals_in, of_kind, scope_in, constant_scope_in}
 use Rattle.c_grammar.proofs.ScopingBlocks.{IsBalanced, balanced_both, code_balanced}
@@ -27,9 +27,9 @@ pub data Piece : (later : Bool) → List Guard → List Item → List Declared �
 
 -- a statement leaves nothing in scope; declarators are no piece of their own: a type stands before them
 abbrev pub PieceOf : (shape : Shape) {ts : List Item} {c : Code} → List Guard → Writes shape ts c → Type 0
-PieceOf Listed {ts} gs s = Piece false gs ts (scope_in gs s) (constant_scope_in gs s)
-PieceOf (Stated b) {ts} gs s = Piece false gs ts [] []
-PieceOf Chained {ts} gs s = Piece true gs ts (scope_in gs s) (constant_scope_in gs s)
+PieceOf (Listed i) {ts} gs s = Piece false gs ts (scope_in gs s) (constant_scope_in gs s)
+PieceOf (Stated i b) {ts} gs s = Piece false gs ts [] []
+PieceOf (Chained i) {ts} gs s = Piece true gs ts (scope_in gs s) (constant_scope_in gs s)
 PieceOf (Locals kind) gs s = Unit {0}
 
 -- behind the head of a statement, which declares nothing
@@ -63,6 +63,15 @@ piece_of gs (block p q s) = enclosed gs p q (piece_of gs s)
 piece_of gs (while p q r {b} {ts} e s) = behind_condition gs (at p signs.While ∷ at q signs.Open ∷ ts) r (expression_calm e) (code_balanced s) (piece_of gs s)
 piece_of gs (for p q r z {b} {ts} {us} {vs} {ws} a t d s) =
     subst (λ (l : List Item). Piece false gs l [] []) (for_is p q r z ts us vs ws) (behind gs (for_head p q r z ts us vs) (header_calm p q r z a t d) (code_balanced s) (piece_of gs s))
+piece_of gs (do_while p q r z t {b} {ts} {us} {x} s e) =
+    let test : List Item = at q signs.While ∷ at r signs.Open ∷ x ∷ (us ++ at z signs.Close ∷ at t signs.Semicolon ∷ []) in
+    let balanced : IsBalanced test = code_balanced (while q r z {ts = x ∷ us} {i = false} e (skip t)) in
+    behind gs (at p signs.Do ∷ []) refl (balanced_both ts test (code_balanced s) balanced)
+    (both gs (piece_of gs s) balanced (calm gs test (calm_both (x ∷ us) (at z signs.Close ∷ at t signs.Semicolon ∷ []) (expression_calm e) refl)))
+piece_of gs (break p q) = calm gs (at p signs.Break ∷ at q signs.Semicolon ∷ []) refl
+piece_of gs (continue p q) = calm gs (at p signs.Continue ∷ at q signs.Semicolon ∷ []) refl
+piece_of gs (return p q {ts} e) =
+    calm gs (at p signs.Return ∷ (ts ++ at q signs.Semicolon ∷ [])) (calm_both ts (at q signs.Semicolon ∷ []) (expression_calm e) refl)
 piece_of gs (if_then p q r {b} {ts} e s) = behind_condition gs (at p signs.If ∷ at q signs.Open ∷ ts) r (expression_calm e) (code_balanced s) (piece_of gs s)
 piece_of gs (if_else p q r z {b} {ts} {us} {vs} e s t) =
     behind_condition gs (at p signs.If ∷ at q signs.Open ∷ ts) r (expression_calm e) (balanced_both us (at z signs.Else ∷ vs) (code_balanced s) (code_balanced t))

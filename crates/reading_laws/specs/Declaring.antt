@@ -65,12 +65,12 @@ pub record BeginsInMain (truths : List Bool) (before : List Item) : Type 0 where
 
 -- behind statements of `main` the names in scope, and the constants among them, are those before the statements, and those that the grammar
 -- declares in these, outside of blocks that are left, and whose guards hold
-pub record HasInnerScope (truths : List Bool) (before : List Item) {us : List Item} {c : Code} (w : Writes Listed us c) : Type 0 where
+pub record HasInnerScope (truths : List Bool) (before : List Item) {i : Bool} {us : List Item} {c : Code} (w : Writes (Listed i) us c) : Type 0 where
   pub names : in_scope_at truths (before ++ us) ≡ in_scope_at truths before ++ targets (holding truths (scope_in [] w))
   pub constants : constants_at truths (before ++ us) ≡ constants_at truths before ++ targets (holding truths (constant_scope_in [] w))
 
 abbrev pub InnerScopesHold : Type 0
-InnerScopesHold = (truths : List Bool) (before us : List Item) (c : Code) → (w : Writes Listed us c) → BeginsInMain truths before → HasInnerScope truths before w
+InnerScopesHold = (truths : List Bool) (i : Bool) (before us : List Item) (c : Code) → (w : Writes (Listed i) us c) → BeginsInMain truths before → HasInnerScope truths before w
 
 -- these names but for those of features
 abbrev pub without_features : List (List ℕ) → List (List ℕ) → List (List ℕ)

@@ -101,7 +101,11 @@ fn programs(rt: HostRuntime) -> Result<(), Fail> {
         ),
         (
             "extern int input(void); int input(); int x = -5, y;\nint main() { x = input(); while (x < 3) { y = +x; } return 7; }",
-            "Program { names: Names { list: [Text { bytes: [120] }, Text { bytes: [121] }] }, start: Values { list: [-5, 0] }, declared: Declarations { list: [] }, body: [Input { place: Place { line: 2, column: 14 }, target: 0 }, While { place: Place { line: 2, column: 27 }, test: Binary(Lt, Var(0), Number(3)), step: [], body: [Block { place: Place { line: 2, column: 41 }, body: [Assign { place: Place { line: 2, column: 43 }, target: 1, value: Var(0) }] }] }, Skip { place: Place { line: 2, column: 53 } }], end: Place { line: 2, column: 63 } }",
+            "Program { names: Names { list: [Text { bytes: [120] }, Text { bytes: [121] }] }, start: Values { list: [-5, 0] }, declared: Declarations { list: [] }, body: [Input { place: Place { line: 2, column: 14 }, target: 0 }, While { place: Place { line: 2, column: 27 }, test: Binary(Lt, Var(0), Number(3)), step: [], body: [Block { place: Place { line: 2, column: 41 }, body: [Assign { place: Place { line: 2, column: 43 }, target: 1, value: Var(0) }] }] }, Leave { place: Place { line: 2, column: 53 }, jump: Return(Number(7)) }], end: Place { line: 2, column: 63 } }",
+        ),
+        (
+            "int x;\nint main(void) { do { if (x) break; continue; } while (x - 1); return x; }",
+            "Program { names: Names { list: [Text { bytes: [120] }] }, start: Values { list: [0] }, declared: Declarations { list: [] }, body: [Do { place: Place { line: 2, column: 18 }, body: [Block { place: Place { line: 2, column: 21 }, body: [If { place: Place { line: 2, column: 23 }, test: Var(0), yes: [Leave { place: Place { line: 2, column: 30 }, jump: Break }], no: [] }, Leave { place: Place { line: 2, column: 37 }, jump: Continue }] }], test_place: Place { line: 2, column: 56 }, test: Binary(Sub, Var(0), Number(1)) }, Leave { place: Place { line: 2, column: 64 }, jump: Return(Var(0)) }], end: Place { line: 2, column: 74 } }",
         ),
         (
             "#include <assert.h>\n/* one\n#if */ static int defined; // two\nint main(void) { assert(defined == 0); }",
@@ -131,6 +135,10 @@ int main(void) {\n => Syntax 2:1
 int x;\nint main(void) { if (x) x = 1; else x = 2; else x = 3; } => Syntax 2:44
 int goto;\nint main(void) { } => Syntax 1:5
 int main(void) { int y = 1; int; } => Syntax 1:32
+int main(void) { { break; } } => Syntax 1:20
+int main(void) { while (1) ; continue; } => Syntax 1:30
+int main(void) { return; } => Syntax 1:24
+int main(void) { do ; } => Syntax 1:23
 int main(void) { } int x; => Syntax 1:20
 static int main(void) { } => Syntax 1:12
 int x;\nint main(void) { x = 1 } => Syntax 2:24

@@ -51,7 +51,7 @@ fn is_the_limit(
 #[test]
 fn sixty_four_constructs_may_stand_in_one_another(rt: HostRuntime) -> Result<(), Fail> {
     // the opening signs, those inside, the closing signs, and where the 65th construct begins
-    let cases: [(&[Sign], &[Sign], &[Sign], usize); 5] = [
+    let cases: [(&[Sign], &[Sign], &[Sign], usize); 6] = [
         (
             &[Sign::If, Sign::Open, Sign::Name(0), Sign::Close],
             &[Sign::Semicolon],
@@ -65,6 +65,18 @@ fn sixty_four_constructs_may_stand_in_one_another(rt: HostRuntime) -> Result<(),
             261,
         ),
         (&[Sign::LeftBrace], &[], &[Sign::RightBrace], 69),
+        (
+            &[Sign::Do],
+            &[Sign::Semicolon],
+            &[
+                Sign::While,
+                Sign::Open,
+                Sign::Name(0),
+                Sign::Close,
+                Sign::Semicolon,
+            ],
+            69,
+        ),
         (
             &[
                 Sign::If,

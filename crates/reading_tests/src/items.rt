@@ -173,7 +173,7 @@ fn a_plain_program_is_read(rt: HostRuntime) -> Result<(), Fail> {
         &rt,
         rt.alloc(),
         &signs,
-        "Values { list: [-5, 0] } Declarations { list: [] } [Assign { place: Place { line: 15, column: 1 }, target: 0, value: Binary(Sub, Binary(Sub, Var(0), Var(1)), Number(1)) }, If { place: Place { line: 23, column: 1 }, test: Var(0), yes: [If { place: Place { line: 27, column: 1 }, test: Var(1), yes: [Skip { place: Place { line: 31, column: 1 } }], no: [Assign { place: Place { line: 33, column: 1 }, target: 0, value: Binary(Sub, Var(0), Number(2)) }] }], no: [] }, Skip { place: Place { line: 37, column: 1 } }] Place { line: 40, column: 1 }",
+        "Values { list: [-5, 0] } Declarations { list: [] } [Assign { place: Place { line: 15, column: 1 }, target: 0, value: Binary(Sub, Binary(Sub, Var(0), Var(1)), Number(1)) }, If { place: Place { line: 23, column: 1 }, test: Var(0), yes: [If { place: Place { line: 27, column: 1 }, test: Var(1), yes: [Skip { place: Place { line: 31, column: 1 } }], no: [Assign { place: Place { line: 33, column: 1 }, target: 0, value: Binary(Sub, Var(0), Number(2)) }] }], no: [] }, Leave { place: Place { line: 37, column: 1 }, jump: Return(Number(0)) }] Place { line: 40, column: 1 }",
     )
 }
 
@@ -247,10 +247,13 @@ fn the_first_wrong_item_is_found(rt: HostRuntime) -> Result<(), Fail> {
         );
     }
     // behind `int main() {`
-    let inside: [(&[Sign], usize); 8] = [
+    let inside: [(&[Sign], usize); 11] = [
         (&[], 5),
         (&[Sign::Name(0), Sign::Equals, Sign::Semicolon], 7),
-        (&[Sign::LeftBrace, Sign::Return], 6),
+        (&[Sign::LeftBrace, Sign::Break], 6),
+        (&[Sign::LeftBrace, Sign::Return, Sign::Semicolon], 7),
+        (&[Sign::Do, Sign::Semicolon, Sign::Semicolon], 7),
+        (&[Sign::Do, Sign::GroupIf(0)], 6),
         (&[Sign::Semicolon, Sign::Else], 6),
         (&[Sign::RightBrace, Sign::Semicolon], 6),
         (&[Sign::RightBrace, Sign::GroupIf(0)], 7),

@@ -1,28 +1,34 @@
 //! The machine that runs a plain program, one statement at a time (ISO/IEC 9899:2011, 6.8).
 #![tactic(auto)]
 
-ghost use Rattle.std.specs.Prelude.{◌≡◌, List, ℤ, ◌+◌, ◌-◌, ◌<◌, reverse, length, slice_get, IfOk, OnOk, OnErr, MatchOption, IfSome};
+ghost use Rattle.std.specs.Prelude.{◌≡◌, List, ℤ, ◌-◌, length, IfOk, OnOk, OnErr};
 ghost use Rattle.std.specs.List.{All};
-ghost use Rattle.c_tree.specs.Tree.{Code, Done, followed};
-ghost use Rattle.c_tree.specs.View.{front, code, whole};
+ghost use Rattle.c_tree.specs.Tree.{Code, Done};
+ghost use Rattle.c_tree.specs.View.{front, whole};
 ghost use Rattle.c_tree.specs.Value.{IsInt};
-ghost use Rattle.c_tree.specs.Fit.{IsCodeOf, IsPlain};
+ghost use Rattle.c_tree.specs.Fit.{IsPlain};
 ghost use Rattle.c_tree.specs.Whole.{IsProgram, IsPlainProgram};
-ghost use Rattle.c_tree.specs.Run.{step_of, next_of, start_of, run_of, cut_of, AtEnd, IsFit};
-ghost use Rattle.run_meaning.specs.View.{pile, below, standing, progress_of, left_by, end_of, performed, IsWithin};
+ghost use Rattle.c_tree.specs.Run.{next_of, start_of, run_of, cut_of, AtEnd, IsFit};
+ghost use Rattle.run_meaning.specs.View.{pile, below, nest, standing, progress_of, left_by, end_of, performed, changed, IsWithin, IsChangeWithin};
 
-use crate::evaluation::value;
+use crate::heads::{drop_head, head_of, open_head};
+use crate::levels::{
+    Level, begin_do_round, begin_round, break_loop, continue_loop, finish, settle,
+};
+use crate::plan::{Change, Plan, plan_for};
 use c_tree::{Kind, Mode, Program, Stmt, copy_list};
 use fam_outer::{NoMemory, Place, Values};
 use std::alloc::Global;
 
-/// Where a run stands: the statements still to do, the store, and the number of inputs taken. The
-/// statements are kept with the last one first, so that a step works at the end of a vector.
+/// Where a run stands: the statements still to do, the loops that are entered, the store, and the
+/// number of inputs taken. The statements are kept with the last one first, so that a step works at
+/// the end of a vector, and the innermost loop comes last.
 #[derive(Drop)]
 pub struct State {
-    todo: Vec<Stmt>,
-    store: Vec<i64>,
-    taken: u64,
+    pub(crate) todo: Vec<Stmt>,
+    pub(crate) levels: Vec<Level>,
+    pub(crate) store: Vec<i64>,
+    pub(crate) taken: u64,
 }
 
 impl State {
@@ -61,7 +67,7 @@ pub enum RunEnd {
 
 /// A program before its first step: its whole body is still to do, its store has the start values,
 /// and no input is taken. The only refusal is want of memory.
-#[tactic(auto, using(crate::proofs::Stacks::piles, crate::proofs::Fits::fit_from_program))]
+#[tactic(auto, using(crate::proofs::Stacks::piles, crate::proofs::Nests::nests, crate::proofs::Fits::fit_from_program))]
 pub fn begin(alloc: Global, program: &Program) -> Result<State, NoMemory>
     requires program { IsProgram (whole program.now) }
     requires plain { IsPlainProgram (whole program.now) }
@@ -73,15 +79,19 @@ pub fn begin(alloc: Global, program: &Program) -> Result<State, NoMemory>
     let store = Vec::from_slice(alloc, program.start.items())?;
     Ok(State {
         todo,
+        levels: Vec::new(alloc),
         store,
         taken: 0,
     })
 }
 
-/// One step in a mode. `Moved`: the first statement was done. `Stopped`: its expression or assertion
-/// stops the run. `Waiting`: it is an input, and all inputs are taken. `Ended`: nothing is left to
-/// do. Only `Moved` changes the state. The memory is taken first, so that after want of memory, the
-/// only refusal, the next call answers as if the refused one had not been.
+/// One step in a mode. `Moved`: the first statement was done, and where the body of a loop is over
+/// then, the state stands at what is done next, which counts no step. `Stopped`: its expression or
+/// assertion stops the run. `Waiting`: it is an input, and all inputs are taken. `Ended`: nothing is
+/// left to do. Only `Moved` changes the state. The memory is taken first, so that after want of
+/// memory, the only refusal, the next call answers as if the refused one had not been. Only where a
+/// round of a loop begins does a step copy statements: the loop's body, and its step; and with them
+/// the test where that comes last.
 #[tactic(auto, using(crate::proofs::Fits::fits))]
 pub fn step(
     alloc: Global,
@@ -101,7 +111,7 @@ pub fn step(
         return Ok(Progress::Ended);
     };
     let plan = plan_for(alloc, head, &state.store, state.taken, inputs, mode)?;
-    act(state, plan, inputs)
+    act(alloc, state, plan, inputs)
 }
 
 /// What stands after at most `n` steps of a program from its start. `At`: `n` steps were made and
@@ -150,6 +160,7 @@ fn store_of(state: State) -> Values
 {
     let State {
         todo: _,
+        levels: _,
         store,
         taken: _,
     } = state;
@@ -166,6 +177,8 @@ fn place_of(head: &Stmt) -> Place
         | Stmt::Assert { place, .. }
         | Stmt::If { place, .. }
         | Stmt::While { place, .. }
+        | Stmt::Do { place, .. }
+        | Stmt::Leave { place, .. }
         | Stmt::Block { place, .. }
         | Stmt::Skip { place } => *place,
         Stmt::Cond { .. } => unreachable!(),
@@ -173,39 +186,20 @@ fn place_of(head: &Stmt) -> Place
 }
 
 /// Does what is planned for the first statement.
-fn act(state: &mut State, plan: Plan, inputs: &[i64]) -> Result<Progress, NoMemory>
+fn act(alloc: Global, state: &mut State, plan: Plan, inputs: &[i64]) -> Result<Progress, NoMemory>
     requires { IsWithin (length state.old.store.items) (length inputs.now - state.old.taken) plan }
     ensures progress { IfOk result (λ p. p
         ≡ progress_of (performed plan (below state.old.todo.items)
-        (pile state.old.todo.items) state.old.store.items state.old.taken)) }
+        (pile state.old.todo.items) (nest state.old.levels.items) state.old.store.items state.old.taken)) }
     ensures left { OnOk result (standing state.new
-        ≡ left_by (performed plan (below state.old.todo.items)
-        (pile state.old.todo.items) state.old.store.items state.old.taken) (standing state.old)) }
+        ≡ left_by (performed plan (below state.old.todo.items) (pile state.old.todo.items)
+        (nest state.old.levels.items) state.old.store.items state.old.taken) (standing state.old)) }
     ensures err { OnErr result (standing state.new ≡ standing state.old) }
 {
     match plan {
-        Plan::Set(target, n) => {
-            drop_head(&mut state.todo);
-            state.store[target as usize] = n;
-            Ok(Progress::Moved)
-        }
-        Plan::Take(target, n) => {
-            let _length = inputs.len();
-            drop_head(&mut state.todo);
-            state.store[target as usize] = n;
-            state.taken += 1;
-            Ok(Progress::Moved)
-        }
-        Plan::Pass => {
-            drop_head(&mut state.todo);
-            Ok(Progress::Moved)
-        }
-        Plan::Enter(list) => {
-            replace_head(&mut state.todo, list)?;
-            Ok(Progress::Moved)
-        }
-        Plan::Again(list) => {
-            put_in_front(&mut state.todo, list)?;
+        Plan::Move(it) => {
+            change(alloc, state, it, inputs)?;
+            settle(state);
             Ok(Progress::Moved)
         }
         Plan::Stop(place, kind) => Ok(Progress::Stopped(place, kind)),
@@ -213,148 +207,34 @@ fn act(state: &mut State, plan: Plan, inputs: &[i64]) -> Result<Progress, NoMemo
     }
 }
 
-/// What is to be done for the first statement, with the memory that it takes.
-#[derive(Drop)]
-enum Plan {
-    Set(u32, i64),
-    Take(u32, i64),
-    Pass,
-    Enter(Vec<Stmt>),
-    Again(Vec<Stmt>),
-    Stop(Place, Kind),
-    Wait(Place),
-}
-
-fn plan_for(
-    alloc: Global,
-    head: &Stmt,
-    store: &[i64],
-    taken: u64,
-    inputs: &[i64],
-    mode: Mode,
-) -> Result<Plan, NoMemory>
-    requires names { IsCodeOf (length store.now) (front head.now Done) }
-    requires plain { IsPlain (front head.now Done) }
-    requires ints { All IsInt store.now }
-    ensures target { IfOk result (IsWithin (length store.now) (length inputs.now - taken)) }
-    ensures does { IfOk result (λ plan. (rest : Code)
-        → step_of mode inputs.now (front head.now rest) store.now taken
-        ≡ performed plan rest (front head.now rest) store.now taken) }
+/// Changes the state. What memory is still to be taken is taken before anything changes.
+fn change(alloc: Global, state: &mut State, it: Change, inputs: &[i64]) -> Result<(), NoMemory>
+    requires { IsChangeWithin (length state.old.store.items) (length inputs.now - state.old.taken) it }
+    ensures ok { OnOk result (standing state.new
+        ≡ changed it (below state.old.todo.items) (pile state.old.todo.items)
+        (nest state.old.levels.items) state.old.store.items state.old.taken) }
+    ensures err { OnErr result (standing state.new ≡ standing state.old) }
 {
-    match head {
-        Stmt::Assign {
-            place,
-            target,
-            value: e,
-        } => match value(e, store, mode) {
-            Ok(n) => Ok(Plan::Set(*target, n)),
-            Err(kind) => Ok(Plan::Stop(*place, kind)),
-        },
-        Stmt::Input { place, target } => match input_at(inputs, taken) {
-            Some(n) => Ok(Plan::Take(*target, n)),
-            None => Ok(Plan::Wait(*place)),
-        },
-        Stmt::Assert { place, test } => match value(test, store, mode) {
-            Ok(n) => {
-                if n == 0 {
-                    Ok(Plan::Stop(*place, Kind::Assertion))
-                } else {
-                    Ok(Plan::Pass)
-                }
-            }
-            Err(kind) => Ok(Plan::Stop(*place, kind)),
-        },
-        Stmt::If {
-            place,
-            test,
-            yes,
-            no,
-        } => match value(test, store, mode) {
-            Ok(n) => {
-                if n == 0 {
-                    Ok(Plan::Enter(copy_list(alloc, no)?))
-                } else {
-                    Ok(Plan::Enter(copy_list(alloc, yes)?))
-                }
-            }
-            Err(kind) => Ok(Plan::Stop(*place, kind)),
-        },
-        Stmt::While {
-            place,
-            test,
-            step,
-            body,
-        } => match value(test, store, mode) {
-            Ok(n) => {
-                if n == 0 {
-                    Ok(Plan::Pass)
-                } else {
-                    Ok(Plan::Again(lap(alloc, body, step)?))
-                }
-            }
-            Err(kind) => Ok(Plan::Stop(*place, kind)),
-        },
-        Stmt::Block { place: _, body } => Ok(Plan::Enter(copy_list(alloc, body)?)),
-        Stmt::Skip { place: _ } => Ok(Plan::Pass),
-        Stmt::Cond { .. } => unreachable!(),
+    match it {
+        Change::Set(target, n) => {
+            drop_head(&mut state.todo);
+            state.store[target as usize] = n;
+        }
+        Change::Take(target, n) => {
+            let _length = inputs.len();
+            drop_head(&mut state.todo);
+            state.store[target as usize] = n;
+            state.taken += 1;
+        }
+        Change::Pass => drop_head(&mut state.todo),
+        Change::Open(first) => return open_head(alloc, &mut state.todo, first),
+        Change::Round(step, body) => return begin_round(state, step, body),
+        Change::DoRound(body, place, test) => return begin_do_round(
+            alloc, state, body, place, test,
+        ),
+        Change::Break => break_loop(state),
+        Change::Continue => continue_loop(state),
+        Change::Finish => finish(state),
     }
-}
-
-/// A copy of what a loop does before its test comes again: its body, and then its step.
-#[tactic(auto, using(crate::proofs::Stacks::laps))]
-fn lap(alloc: Global, body: &[Stmt], step: &[Stmt]) -> Result<Vec<Stmt>, NoMemory>
-    ensures { IfOk result (λ made. (rest : Code)
-        → followed (code made.items) rest ≡ followed (code body.now) (followed (code step.now) rest)) }
-{
-    let mut made = copy_list(alloc, body)?;
-    let mut after = copy_list(alloc, step)?;
-    made.append(&mut after)?;
-    Ok(made)
-}
-
-fn input_at(inputs: &[i64], taken: u64) -> Option<i64>
-    ensures value { result ≡ slice_get inputs.now taken }
-    ensures there { IfSome result (λ _. taken < length inputs.now) }
-{
-    inputs.get(taken as usize).copied()
-}
-
-/// The statement that comes first.
-#[tactic(auto, using(crate::proofs::Stacks::head_is))]
-fn head_of(todo: &Vec<Stmt>) -> Option<&Stmt>
-    ensures { MatchOption result (pile todo.now.items ≡ Done)
-        (λ s. pile todo.now.items ≡ front s.now (below todo.now.items)) }
-{
-    todo.last()
-}
-
-#[tactic(auto, unfolding(crate::specs::View::pile, crate::specs::View::below))]
-fn drop_head(todo: &mut Vec<Stmt>)
-    ensures { pile todo.new.items ≡ below todo.old.items }
-{
-    let _head = todo.pop();
-}
-
-/// Puts a list in the place of the first statement.
-#[tactic(auto, using(crate::proofs::Stacks::put), unfolding(crate::specs::View::pile, crate::specs::View::below))]
-fn replace_head(todo: &mut Vec<Stmt>, mut list: Vec<Stmt>) -> Result<(), NoMemory>
-    ensures ok { OnOk result (pile todo.new.items ≡ followed (code list.items) (below todo.old.items)) }
-    ensures err { OnErr result (pile todo.new.items ≡ pile todo.old.items) }
-{
-    todo.reserve(list.len())?;
-    list.reverse();
-    let _head = todo.pop();
-    todo.append(&mut list).unwrap();
-    Ok(())
-}
-
-/// Puts a list in front of the first statement.
-#[tactic(auto, using(crate::proofs::Stacks::put), unfolding(crate::specs::View::pile, crate::specs::View::below))]
-fn put_in_front(todo: &mut Vec<Stmt>, mut list: Vec<Stmt>) -> Result<(), NoMemory>
-    ensures ok { OnOk result (pile todo.new.items ≡ followed (code list.items) (pile todo.old.items)) }
-    ensures err { OnErr result (pile todo.new.items ≡ pile todo.old.items) }
-{
-    list.reverse();
-    todo.append(&mut list)?;
     Ok(())
 }

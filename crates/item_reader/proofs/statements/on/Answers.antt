@@ -9,7 +9,7 @@ use Rattle.item_reader.proofs.statements.on.Goals as goal
 
 pub returns-in_default : goal.returns-in_default
 returns-in_default c =
-    IfOk-weaker c.begin_behind.result
-    (λ next. option_map as_state next ≡ machine.begin (machine.folded (as_stack c.args.outer) (front c.args.statement Done)) c.args.place c.args.sign)
+    IfOk-weaker c.proceed_behind.result
+    (λ next. option_map as_state next ≡ machine.proceed (machine.placed (as_stack c.args.outer) (front c.args.statement Done)) c.args.place c.args.sign)
     (λ next. option_map as_state next ≡ machine.on (as_stack c.args.outer) (front c.args.statement Done) c.args.place c.args.sign)
-    (λ next e. e ∙ sym (no_else (as_stack c.args.outer) (front c.args.statement Done) c.args.place c.args.sign c.in_default.not-Else)) c.begin_behind.ensures
+    (λ next e. e ∙ sym (no_else (as_stack c.args.outer) (front c.args.statement Done) c.args.place c.args.sign c.in_default.not-Else)) c.proceed_behind.ensures

@@ -1,71 +1,54 @@
-use Rattle.std.proofs.Common.{rules, arith, ◌≡◌, ℕ, ◌-◌, ◌+◌, ◌∙◌, ap, sym, subst, refl, true, false, take, nat_lt}
+use Rattle.std.proofs.Common.{rules, arith, ◌≡◌, ◌≤◌, ℕ, ◌-◌, ◌+◌, ◌∙◌, ap, sym, subst, refl, true, take, nat_lt, List, Bool}
 use Rattle.c_tree.specs.Tree.{Done}
 use Rattle.c_tree.specs.View.{term, front, code, whole}
 use Rattle.c_tree.specs.Fit.{IsCodeOf}
+use Rattle.c_tree.specs.Project.{projected}
 use Rattle.decision_tree.specs.Numbered.{erase}
 use Rattle.decision_tree.specs.Plain.{leaf_of}
 use Rattle.decision_tree.specs.View.{numbered, plain}
 use Rattle.decision_tree.proofs.Numbers.{keeps_same, keeps_both, numbers_tell}
+use Rattle.leaf_domain.specs.Leaves.{LeafValue}
 use Rattle.leaf_domain.specs.Transfer.{assumed}
 use Rattle.plain_analysis.specs.Loops.{round_by, rounds_of, round_count, narrowings_of}
+use Rattle.plain_analysis.specs.Stated.{ArePartsOf, HasLoopsIn, HasLoopsOf}
+use Rattle.plain_analysis.specs.Statements.{LoopParts, TestFirst, TestLast, body_of, passed, lap, failing, through_body, final_heads}
+use Rattle.plain_analysis.specs.View.{parts_of}
+use Rattle.plain_analysis.specs.Ways.{Ways, onto, enter, going_on, behind_loop}
 use Rattle.plain_analysis.proofs.Listed.{IsCodeOf-at}
 use Rattle.plain_analysis.proofs.Rounds.{rounds_stay, narrowings_stay, narrowings_move}
-use Rattle.plain_analysis.proofs.Sizes.{size-at}
+use Rattle.plain_analysis.proofs.Sizes.{size_of, size_in, size-at}
 use Rattle.plain_analysis.proofs.StatedLemmas.{loops-at}
-use Rattle.plain_analysis.specs.Stated.{HasLoopsOf}
 use Rattle.lifted_analysis.specs.declared.finals.Entered.{Entered}
 use Rattle.lifted_analysis.specs.Heads.{turns_over}
-use Rattle.lifted_analysis.specs.Steps.{kept_by, after_at, if_at, group_at, final_at}
-use Rattle.lifted_analysis.proofs.StateLemmas.{state_sized, state_stays, counted, lifted_then, lifted_as}
-use Rattle.lifted_analysis.proofs.FamilyLemmas.{after_at-more, after_at-While, after_at-Cond, kept_joins}
-use Rattle.lifted_analysis.proofs.LoopLemmas.{rounds_go}
-use Rattle.lifted_analysis.proofs.FinalsLemmas.{memory_stays, memory_same, memory_lifted, memory_joint, recalled_made, remembered}
-use Rattle.lifted_analysis.proofs.AfterLemmas.{front-Skip, shared_made, then_made, as_made, both_made, nothing_stays, nothing_ends}
+use Rattle.lifted_analysis.specs.Rules.{ended_heads, body_with, behind_with, head_with, AreCountedWith}
+use Rattle.lifted_analysis.specs.States.{truths_in, ways_at}
+use Rattle.lifted_analysis.specs.Steps.{kept_by, parts_at, failing_so, after_at, both_at, if_at, group_at, lap_at, final_at}
+use Rattle.lifted_analysis.proofs.AfterLemmas.{shared_made}
+use Rattle.lifted_analysis.proofs.FinalsLemmas.{memory_stays, memory_same, memory_lifted, memory_made, recalled_made, remembered}
+use Rattle.lifted_analysis.proofs.IdleLemmas.{final_idle, group_joins}
+use Rattle.lifted_analysis.proofs.LoopLemmas.{rounds_go, body_small, body_fits, body_loops, failing_is, entered_is}
+use Rattle.lifted_analysis.proofs.StateLemmas.{state_sized, state_stays, counted}
+use Rattle.lifted_analysis.proofs.WalkLemmas.{passed_with-more, passed_with-If, passed_with-While, passed_with-Do, passed_with-Leave, passed_with-Block, passed_with-Skip, passed_with-Cond}
+use Rattle.lifted_analysis.proofs.WaysLemmas.{states_stay, unchanged, if_made_as, if_lifted_is, if_is_lifted, if_counted_as, nothing_changes, nothing_ends, then_passed, both_made, both_counted}
 use Rattle.lifted_analysis.proofs.after.+after.Goals as goal
 
-pub after_group-returns-clause-lifted : goal.after_group-returns-clause-lifted
-after_group-returns-clause-lifted g t c =
-    let value = g.L.Leaf.value in
-    let M = g.L.Leaf.meaning in
-    let family = c.args.family.now in
-    let p = code c.args.yes.now in
-    let q = code c.args.no.now in
-    let choice = plain c.args.choice.now in
-    both_made value family c.joined.result M c.args.tables.now.leaves c.kept.new.tables.leaves c.kept-2.new.tables.leaves c.after_list.new.tables.leaves c.after_list-2.new.tables.leaves c.joined.new.tables.leaves
-    (λ v. kept_by true (leaf_of choice v)) _ (after_at M family p) (after_at M family q) (group_at M family choice p q)
-    (plain c.args.t.now) (numbered c.in_ok-in_yes.in_yes) (numbered c.in_ok-in_no.in_no) (numbered c.in_ok-after_yes.after_yes) (numbered c.in_ok-after_no.after_no)
-    c.in_ok-in_yes.ensures c.in_ok-in_no.ensures c.in_ok-after_yes.ensures.lifted c.in_ok-after_no.ensures.lifted
-    (λ v e f. kept_joins M family g.met.L.Leaf.laws (c.transfer_is_sound.ensures.answers family.options.now.mode) c.requires.family.few p q v (leaf_of choice v) (value (leaf_of (plain c.args.t.now) v)) (counted value family c.args.tables.now.leaves (numbered c.args.t.now) v c.requires.state) e f)
-    c.joined.ensures
+-- ---- lists
 
-pub after_if-returns-clause-lifted : goal.after_if-returns-clause-lifted
-after_if-returns-clause-lifted g t c =
-    let M = g.L.Leaf.meaning in
+pub after_list-returns-then-is_nothing_everywhere-clause-made : goal.after_list-returns-then-is_nothing_everywhere-clause-made
+after_list-returns-then-is_nothing_everywhere-clause-made g t c =
     let family = c.args.family.now in
-    let p = code c.args.yes.now in
-    let q = code c.args.no.now in
-    both_made g.L.Leaf.value family c.joined.result M c.args.tables.now.leaves c.stepped.new.tables.leaves c.stepped-2.new.tables.leaves c.after_list.new.tables.leaves c.after_list-2.new.tables.leaves c.joined.new.tables.leaves
-    _ _ (after_at M family p) (after_at M family q) (if_at M family (term c.args.test.now) p q)
-    (plain c.args.t.now) (numbered c.in_ok-in_yes.in_yes) (numbered c.in_ok-in_no.in_no) (numbered c.in_ok-after_yes.after_yes) (numbered c.in_ok-after_no.after_no)
-    c.in_ok-in_yes.ensures c.in_ok-in_no.ensures c.in_ok-after_yes.ensures.lifted c.in_ok-after_no.ensures.lifted
-    (λ v e f. refl)
-    c.joined.ensures
+    nothing_changes g.L.Leaf.value family g.L.Leaf.meaning g.met.L.Leaf.laws (c.transfer_is_sound.ensures.answers family.options.now.mode) c.requires.family c.args.tables.now.leaves c.args.ways (code c.args.list.now) c.requires.states
+    (c.is_nothing_everywhere.ensures c.if-is_nothing_everywhere.true)
 
-pub after_list-returns-then-is_nothing_everywhere-clause-lifted : goal.after_list-returns-then-is_nothing_everywhere-clause-lifted
-after_list-returns-then-is_nothing_everywhere-clause-lifted g t c =
-    let value = g.L.Leaf.value in
-    let M = g.L.Leaf.meaning in
-    let family = c.args.family.now in
-    let forest = c.args.tables.now.leaves in
-    shared_made value family c.share.result forest (after_at M family (code c.args.list.now)) (numbered c.args.t.now) c.requires.state
-    (nothing_stays value family M g.met.L.Leaf.laws (c.transfer_is_sound.ensures.answers family.options.now.mode) c.requires.family forest (numbered c.args.t.now) (code c.args.list.now) c.requires.state (c.is_nothing_everywhere.ensures c.if-is_nothing_everywhere.true))
-    c.share.ensures
+pub after_list-loop-s-init : goal.after_list-loop-s-init
+after_list-loop-s-init g t c =
+    record { made = unchanged g.L.Leaf.value c.args.family.now c.args.tables.now.leaves c.args.ways (λ v. ways_at g.L.Leaf.value c.args.ways v) c.requires.states (λ v. refl); memory = c.requires.memory }
 
 pub after_list-after_stmt-requires : goal.after_list-after_stmt-requires
 after_list-after_stmt-requires g t c κs within =
     let s = c.s-item.result in
     let fit : IsCodeOf c.args.family.now.variables (front s Done) = IsCodeOf-at c.args.family.now.variables c.args.list.now c.loop-s.s-index s c.loop-s-test.true c.s-item.is c.requires.part.0 in
-    let state = c.loop-s.invariant.made.state in
+    let states = c.loop-s.invariant.made.states in
     let p = whole c.args.family.now.program.now in
     let loops : HasLoopsOf p (front s Done) = loops-at p c.args.list.now c.loop-s.s-index s c.loop-s-test.true c.s-item.is c.requires.part.1 in
     let memory = c.loop-s.invariant.memory in
@@ -76,60 +59,469 @@ after_list-loop-s-preserved g t c =
     let value = g.L.Leaf.value in
     let M = g.L.Leaf.meaning in
     let family = c.args.family.now in
+    let E = ended_heads M family in
+    let w = c.args.ways in
     let list = c.args.list.now in
     let i = c.loop-s.s-index in
     let s = c.s-item.result in
-    let t = plain c.args.t.now in
-    let so_far = after_at M family (code (take i list)) in
-    let here = after_at M family (front s Done) in
-    let b = c.loop-s.tables.leaves in
-    let z = c.after_stmt.new.tables.leaves in
-    let made = numbered c.in_ok-made-2.made in
+    let new = c.in_ok-made.ensures in
     record {
-      made = lifted_as value family c.args.tables.now.leaves z (λ v x. here v (so_far v x)) (after_at M family (code (take (i + 1) list))) t made
-          (λ v. sym (after_at-more M family list i s v (value (leaf_of t v)) c.loop-s-test.true c.s-item.is))
-          (lifted_then value family c.args.tables.now.leaves b z so_far here t (numbered c.loop-s.made) made c.loop-s.invariant.made c.in_ok-made-2.ensures.lifted);
-      memory = c.in_ok-made-2.ensures.memory;
+      made = then_passed value family c.args.tables.now.leaves c.loop-s.tables.leaves c.after_stmt.new.tables.leaves w c.loop-s.made c.in_ok-made.made
+          (after_at M family (code (take i list))) (after_at M family (front s Done)) (after_at M family (code (take (i + 1) list))) c.loop-s.invariant.made new.made
+          (λ v. sym (passed_with-more M family E list i s v (ways_at value w v) c.loop-s-test.true c.s-item.is));
+      memory = new.memory;
     }
 
-pub after_stmt-returns-in_ok-last-in-While-clause-lifted : goal.after_stmt-returns-in_ok-last-in-While-clause-lifted
-after_stmt-returns-in_ok-last-in-While-clause-lifted g t c =
-    let value = g.L.Leaf.value in
-    let M = g.L.Leaf.meaning in
-    let family = c.args.family.now in
-    let w = c.in-While in
-    let t = plain c.args.t.now in
-    then_made value family c.stepped-in-While.result c.args.tables.now.leaves c.final_tree.new.tables.leaves c.stepped-in-While.new.tables.leaves
-    (final_at M family (term w.test) (code c.deref-in-While.result.now) (code c.deref-in-While-2.result.now)) _ (after_at M family (front c.args.s.now Done)) t (numbered c.in_ok-last-in-While.last) c.in_ok-last-in-While.ensures.lifted
-    (λ v. let x = value (leaf_of t v) in
-    ap (λ l. assumed M family.options.now.mode (term w.test) false (final_at M family (term w.test) (code l) (code c.deref-in-While-2.result.now) v x)) c.deref-in-While.ensures.value
-    ∙ (ap (λ l. assumed M family.options.now.mode (term w.test) false (final_at M family (term w.test) (code w.step.items) (code l) v x)) c.deref-in-While-2.ensures.value
-    ∙ after_at-While M family c.args.s.now w.place w.test w.step w.body v x w.is))
-    c.stepped-in-While.ensures
+-- ---- statements
 
-pub after_stmt-returns-in-Skip-clause-lifted : goal.after_stmt-returns-in-Skip-clause-lifted
-after_stmt-returns-in-Skip-clause-lifted g t c =
-    let value = g.L.Leaf.value in
-    let M = g.L.Leaf.meaning in
+pub after_stmt-returns-then-is_nothing_everywhere-clause-made : goal.after_stmt-returns-then-is_nothing_everywhere-clause-made
+after_stmt-returns-then-is_nothing_everywhere-clause-made g t c =
     let family = c.args.family.now in
-    shared_made value family c.share-in-Skip.result c.args.tables.now.leaves (after_at M family (front c.args.s.now Done)) (numbered c.args.t.now) c.requires.state
-    (λ v. ap (λ a. after_at M family a v (value (leaf_of (plain c.args.t.now) v))) (sym (ap (λ s. front s Done) c.in-Skip.is ∙ front-Skip c.in-Skip.place)))
-    c.share-in-Skip.ensures
+    nothing_changes g.L.Leaf.value family g.L.Leaf.meaning g.met.L.Leaf.laws (c.transfer_is_sound.ensures.answers family.options.now.mode) c.requires.family c.args.tables.now.leaves c.args.ways (front c.args.s.now Done) c.requires.states
+    (c.is_nothing_everywhere.ensures c.if-is_nothing_everywhere.true)
 
-pub after_stmt-returns-in-Cond-clause-lifted : goal.after_stmt-returns-in-Cond-clause-lifted
-after_stmt-returns-in-Cond-clause-lifted g t c =
+pub after_stmt-returns-in-If-clause-made : goal.after_stmt-returns-in-If-clause-made
+after_stmt-returns-in-If-clause-made g t c =
     let value = g.L.Leaf.value in
     let M = g.L.Leaf.meaning in
     let family = c.args.family.now in
-    let w = c.in-Cond in
+    let E = ended_heads M family in
+    let w = c.args.ways in
+    let i = c.in-If in
+    let a = c.args.tables.now.leaves in
+    if_made_as value family c.after_if.result a a c.after_if.new.tables.leaves _ (λ v. after_at M family (front c.args.s.now Done) v (ways_at value w v)) (keeps_same a a refl)
+    (λ v.
+    ap (λ l. if_at M family (term i.test) (code l) (code c.deref-in-If.result.now) v (ways_at value w v)) c.deref.ensures.value
+    ∙ (ap (λ l. if_at M family (term i.test) (code i.yes.items) (code l) v (ways_at value w v)) c.deref-in-If.ensures.value
+    ∙ passed_with-If M family E c.args.s.now i.place i.test i.yes i.no v (ways_at value w v) i.is))
+    c.after_if.ensures.made
+
+pub after_stmt-returns-in-While-clause-made : goal.after_stmt-returns-in-While-clause-made
+after_stmt-returns-in-While-clause-made g t c =
+    let value = g.L.Leaf.value in
+    let M = g.L.Leaf.meaning in
+    let family = c.args.family.now in
+    let E = ended_heads M family in
+    let w = c.args.ways in
+    let i = c.in-While in
+    let a = c.args.tables.now.leaves in
+    let by : LoopParts → List Bool → Ways = λ l v. behind_with M family E l v (ways_at value w v) (head_with M family E i.place l v (ways_at value w v).behind) in
+    if_made_as value family c.after_loop.result a a c.after_loop.new.tables.leaves (λ v. by (TestFirst (term i.test) (code c.deref-in-While.result.now) (code c.deref-in-While-2.result.now)) v)
+    (λ v. after_at M family (front c.args.s.now Done) v (ways_at value w v)) (keeps_same a a refl)
+    (λ v.
+    ap (λ l. by (TestFirst (term i.test) (code l) (code c.deref-in-While-2.result.now)) v) c.deref-in-While.ensures.value
+    ∙ (ap (λ l. by (TestFirst (term i.test) (code i.step.items) (code l)) v) c.deref-in-While-2.ensures.value
+    ∙ passed_with-While M family E c.args.s.now i.place i.test i.step i.body v (ways_at value w v) i.is))
+    c.after_loop.ensures.made
+
+pub after_stmt-returns-in-Do-clause-made : goal.after_stmt-returns-in-Do-clause-made
+after_stmt-returns-in-Do-clause-made g t c =
+    let value = g.L.Leaf.value in
+    let M = g.L.Leaf.meaning in
+    let family = c.args.family.now in
+    let E = ended_heads M family in
+    let w = c.args.ways in
+    let i = c.in-Do in
+    let a = c.args.tables.now.leaves in
+    let by : LoopParts → List Bool → Ways = λ l v. behind_with M family E l v (ways_at value w v) (head_with M family E i.place l v (ways_at value w v).behind) in
+    if_made_as value family c.after_loop-in-Do.result a a c.after_loop-in-Do.new.tables.leaves (λ v. by (TestLast (code c.deref-in-Do.result.now) i.test_place (term i.test)) v)
+    (λ v. after_at M family (front c.args.s.now Done) v (ways_at value w v)) (keeps_same a a refl)
+    (λ v.
+    ap (λ l. by (TestLast (code l) i.test_place (term i.test)) v) c.deref-in-Do.ensures.value
+    ∙ passed_with-Do M family E c.args.s.now i.place i.body i.test_place i.test v (ways_at value w v) i.is)
+    c.after_loop-in-Do.ensures.made
+
+pub after_stmt-returns-in-Leave-clause-made : goal.after_stmt-returns-in-Leave-clause-made
+after_stmt-returns-in-Leave-clause-made g t c =
+    let value = g.L.Leaf.value in
+    let M = g.L.Leaf.meaning in
+    let family = c.args.family.now in
+    let E = ended_heads M family in
+    let w = c.args.ways in
+    let i = c.in-Leave in
+    let a = c.args.tables.now.leaves in
+    if_made_as value family c.leave.result a a c.leave.new.tables.leaves _ (λ v. after_at M family (front c.args.s.now Done) v (ways_at value w v)) (keeps_same a a refl)
+    (λ v. passed_with-Leave M family E c.args.s.now i.place i.jump v (ways_at value w v) i.is) c.leave.ensures
+
+pub after_stmt-returns-in-Block-clause-made : goal.after_stmt-returns-in-Block-clause-made
+after_stmt-returns-in-Block-clause-made g t c =
+    let value = g.L.Leaf.value in
+    let M = g.L.Leaf.meaning in
+    let family = c.args.family.now in
+    let E = ended_heads M family in
+    let w = c.args.ways in
+    let i = c.in-Block in
+    let a = c.args.tables.now.leaves in
+    if_made_as value family c.after_list.result a a c.after_list.new.tables.leaves _ (λ v. after_at M family (front c.args.s.now Done) v (ways_at value w v)) (keeps_same a a refl)
+    (λ v. ap (λ l. after_at M family (code l) v (ways_at value w v)) c.deref-in-Block.ensures.value ∙ passed_with-Block M family E c.args.s.now i.place i.body v (ways_at value w v) i.is) c.after_list.ensures.made
+
+pub after_stmt-returns-in-Skip-clause-made : goal.after_stmt-returns-in-Skip-clause-made
+after_stmt-returns-in-Skip-clause-made g t c =
+    let value = g.L.Leaf.value in
+    let M = g.L.Leaf.meaning in
+    let family = c.args.family.now in
+    let E = ended_heads M family in
+    let w = c.args.ways in
+    unchanged value family c.args.tables.now.leaves w (λ v. after_at M family (front c.args.s.now Done) v (ways_at value w v)) c.requires.states
+    (λ v. passed_with-Skip M family E c.args.s.now c.in-Skip.place v (ways_at value w v) c.in-Skip.is)
+
+pub after_stmt-returns-in-Cond-clause-made : goal.after_stmt-returns-in-Cond-clause-made
+after_stmt-returns-in-Cond-clause-made g t c =
+    let value = g.L.Leaf.value in
+    let M = g.L.Leaf.meaning in
+    let family = c.args.family.now in
+    let E = ended_heads M family in
+    let w = c.args.ways in
+    let i = c.in-Cond in
+    let a = c.args.tables.now.leaves in
     let choice = plain c.choice-choice.result.now in
-    as_made value family c.after_group.result c.args.tables.now.leaves c.after_group.new.tables.leaves
-    (group_at M family choice (code c.deref-in-Cond.result.now) (code c.deref-in-Cond-2.result.now)) (after_at M family (front c.args.s.now Done)) (plain c.args.t.now)
-    (λ v. let x = value (leaf_of (plain c.args.t.now) v) in
-    ap (λ l. group_at M family choice (code l) (code c.deref-in-Cond-2.result.now) v x) c.deref-in-Cond.ensures.value
-    ∙ (ap (λ l. group_at M family choice (code w.yes.items) (code l) v x) c.deref-in-Cond-2.ensures.value
-    ∙ after_at-Cond M family c.args.s.now w.number w.yes w.no (leaf_of choice v) v x w.is (sym (c.choice-choice.ensures.at_each v))))
-    c.after_group.ensures.lifted
+    if_made_as value family c.after_group.result a a c.after_group.new.tables.leaves _ (λ v. after_at M family (front c.args.s.now Done) v (ways_at value w v)) (keeps_same a a refl)
+    (λ v.
+    ap (λ l. group_at M family choice (code l) (code c.deref-in-Cond-2.result.now) v (ways_at value w v)) c.deref-in-Cond.ensures.value
+    ∙ (ap (λ l. group_at M family choice (code i.yes.items) (code l) v (ways_at value w v)) c.deref-in-Cond-2.ensures.value
+    ∙ passed_with-Cond M family E c.args.s.now i.number i.yes i.no (leaf_of choice v) v (ways_at value w v) i.is (sym (c.choice-choice.ensures.at_each v))))
+    c.after_group.ensures.made
+
+pub after_stmt-returns-in-Assign-clause-memory : goal.after_stmt-returns-in-Assign-clause-memory
+after_stmt-returns-in-Assign-clause-memory g t c =
+    memory_made g.L.Leaf.value g.L.Leaf.meaning c.args.family.now c.after_step.result c.args.tables.now.leaves c.after_step.new.tables.leaves c.args.finals.now _ c.after_step.ensures c.requires.memory
+
+pub after_stmt-returns-in-Input-clause-memory : goal.after_stmt-returns-in-Input-clause-memory
+after_stmt-returns-in-Input-clause-memory g t c =
+    memory_made g.L.Leaf.value g.L.Leaf.meaning c.args.family.now c.after_step-in-Input.result c.args.tables.now.leaves c.after_step-in-Input.new.tables.leaves c.args.finals.now _ c.after_step-in-Input.ensures c.requires.memory
+
+pub after_stmt-returns-in-Assert-clause-memory : goal.after_stmt-returns-in-Assert-clause-memory
+after_stmt-returns-in-Assert-clause-memory g t c =
+    memory_made g.L.Leaf.value g.L.Leaf.meaning c.args.family.now c.after_step-in-Assert.result c.args.tables.now.leaves c.after_step-in-Assert.new.tables.leaves c.args.finals.now _ c.after_step-in-Assert.ensures c.requires.memory
+
+pub after_stmt-returns-in-Leave-clause-memory : goal.after_stmt-returns-in-Leave-clause-memory
+after_stmt-returns-in-Leave-clause-memory g t c =
+    memory_made g.L.Leaf.value g.L.Leaf.meaning c.args.family.now c.leave.result c.args.tables.now.leaves c.leave.new.tables.leaves c.args.finals.now _ c.leave.ensures c.requires.memory
+
+-- ---- two lists
+
+pub after_both-after_list-requires-2 : goal.after_both-after_list-requires-2
+after_both-after_list-requires-2 g t c κs within =
+    let value = g.L.Leaf.value in
+    let family = c.args.family.now in
+    let first = c.in_ok-first.ensures in
+    let states = first.made.states in
+    let second = state_stays value family c.args.tables.now.leaves c.after_list.new.tables.leaves (numbered c.args.second) first.made.keeps c.requires.second in
+    let memory = first.memory in
+    (omega arith, search rules)
+
+pub after_both-returns-clause-made : goal.after_both-returns-clause-made
+after_both-returns-clause-made g t c =
+    let value = g.L.Leaf.value in
+    let M = g.L.Leaf.meaning in
+    let family = c.args.family.now in
+    let E = ended_heads M family in
+    let w = c.args.ways in
+    both_made value family M c.args.tables.now.leaves c.after_list.new.tables.leaves c.after_list-2.new.tables.leaves c.joined.new.tables.leaves w c.in_ok-first.first c.in_ok-made.made c.args.second c.in_ok-behind.behind
+    (after_at M family (code c.args.yes.now)) (after_at M family (code c.args.no.now)) c.in_ok-first.ensures.made c.in_ok-made.ensures.made c.in_ok-behind.ensures
+
+pub after_both-returns-clause-counted : goal.after_both-returns-clause-counted
+after_both-returns-clause-counted g t c =
+    let value = g.L.Leaf.value in
+    let M = g.L.Leaf.meaning in
+    let family = c.args.family.now in
+    let E = ended_heads M family in
+    let w = c.args.ways in
+    λ v.
+    both_counted value family c.args.tables.now.leaves c.after_list.new.tables.leaves c.after_list-2.new.tables.leaves w c.in_ok-first.first c.in_ok-made.made c.args.second
+    (after_at M family (code c.args.yes.now)) (after_at M family (code c.args.no.now)) v c.in_ok-first.ensures.made c.in_ok-made.ensures.made
+
+pub after_both-returns-clause-memory : goal.after_both-returns-clause-memory
+after_both-returns-clause-memory g t c =
+    memory_stays g.L.Leaf.value g.L.Leaf.meaning c.args.family.now c.after_list-2.new.tables.leaves c.joined.new.tables.leaves c.after_list-2.new.finals c.in_ok-behind.ensures.keeps c.in_ok-made.ensures.memory
+
+pub after_if-after_step-requires-clause-states : goal.after_if-after_step-requires-clause-states
+after_if-after_step-requires-clause-states g t c =
+    states_stay g.L.Leaf.value c.args.family.now c.args.tables.now.leaves c.stepped.new.tables.leaves c.args.ways c.in_ok-in_no.ensures.keeps c.requires.states
+
+pub after_if-after_both-requires : goal.after_if-after_both-requires
+after_if-after_both-requires g t c κs within =
+    let value = g.L.Leaf.value in
+    let M = g.L.Leaf.meaning in
+    let family = c.args.family.now in
+    let a = c.args.tables.now.leaves in
+    let b = c.stepped.new.tables.leaves in
+    let d = c.after_step.new.tables.leaves in
+    let f = c.args.finals.now in
+    let states = c.in_ok-in_yes.ensures.states in
+    let second = state_stays value family b d (numbered c.in_ok-in_no.in_no) c.in_ok-in_yes.ensures.keeps c.in_ok-in_no.ensures.state in
+    let memory = memory_stays value M family b d f c.in_ok-in_yes.ensures.keeps (memory_stays value M family a b f c.in_ok-in_no.ensures.keeps c.requires.memory) in
+    (omega arith, search rules)
+
+pub after_if-returns-clause-made : goal.after_if-returns-clause-made
+after_if-returns-clause-made g t c =
+    let value = g.L.Leaf.value in
+    let M = g.L.Leaf.meaning in
+    let family = c.args.family.now in
+    let E = ended_heads M family in
+    let w = c.args.ways in
+    let p = code c.args.yes.now in
+    let q = code c.args.no.now in
+    let a = c.args.tables.now.leaves in
+    let b = c.stepped.new.tables.leaves in
+    let d = c.after_step.new.tables.leaves in
+    if_made_as value family c.after_both.result a d c.after_both.new.tables.leaves
+    (λ v. both_at M family p q v (ways_at value c.in_ok-in_yes.in_yes v) (value (leaf_of (plain c.in_ok-in_no.in_no) v))) (λ v. if_at M family (term c.args.test.now) p q v (ways_at value w v))
+    (keeps_both a b d c.in_ok-in_no.ensures.keeps c.in_ok-in_yes.ensures.keeps)
+    (λ v.
+    ap (λ u. both_at M family p q v u (value (leaf_of (plain c.in_ok-in_no.in_no) v))) (c.in_ok-in_yes.ensures.at_each v)
+    ∙ ap (λ (x : LeafValue). both_at M family p q v (onto (ways_at value w v) (assumed M family.options.now.mode (term c.args.test.now) true (ways_at value w v).behind)) x) (c.in_ok-in_no.ensures.at_each v))
+    c.after_both.ensures.made
+
+pub after_group-keep_behind-requires-clause-states : goal.after_group-keep_behind-requires-clause-states
+after_group-keep_behind-requires-clause-states g t c =
+    states_stay g.L.Leaf.value c.args.family.now c.args.tables.now.leaves c.kept.new.tables.leaves c.args.ways c.in_ok-in_no.ensures.keeps c.requires.states
+
+pub after_group-after_both-requires : goal.after_group-after_both-requires
+after_group-after_both-requires g t c κs within =
+    let value = g.L.Leaf.value in
+    let M = g.L.Leaf.meaning in
+    let family = c.args.family.now in
+    let a = c.args.tables.now.leaves in
+    let b = c.kept.new.tables.leaves in
+    let d = c.keep_behind.new.tables.leaves in
+    let f = c.args.finals.now in
+    let states = c.in_ok-in_yes.ensures.states in
+    let second = state_stays value family b d (numbered c.in_ok-in_no.in_no) c.in_ok-in_yes.ensures.keeps c.in_ok-in_no.ensures.state in
+    let memory = memory_stays value M family b d f c.in_ok-in_yes.ensures.keeps (memory_stays value M family a b f c.in_ok-in_no.ensures.keeps c.requires.memory) in
+    (omega arith, search rules)
+
+pub after_group-returns-clause-made : goal.after_group-returns-clause-made
+after_group-returns-clause-made g t c =
+    let value = g.L.Leaf.value in
+    let M = g.L.Leaf.meaning in
+    let family = c.args.family.now in
+    let E = ended_heads M family in
+    let w = c.args.ways in
+    let o = family.options.now in
+    let p = code c.args.yes.now in
+    let q = code c.args.no.now in
+    let choice = plain c.args.choice.now in
+    let a = c.args.tables.now.leaves in
+    let b = c.kept.new.tables.leaves in
+    let d = c.keep_behind.new.tables.leaves in
+    let yes = c.in_ok-in_yes.ensures in
+    let no = c.in_ok-in_no.ensures in
+    let A = c.transfer_is_sound.ensures.answers o.mode in
+    let few = c.requires.family.few in
+    if_counted_as value family c.after_both.result a d c.after_both.new.tables.leaves
+    (λ v. AreCountedWith M family E E p q v (ways_at value c.in_ok-in_yes.in_yes v) (value (leaf_of (plain c.in_ok-in_no.in_no) v)))
+    (λ v. both_at M family p q v (ways_at value c.in_ok-in_yes.in_yes v) (value (leaf_of (plain c.in_ok-in_no.in_no) v))) (λ v. group_at M family choice p q v (ways_at value w v))
+    (keeps_both a b d no.keeps yes.keeps)
+    (λ v over.
+    let ts = truths_in family.choices.now v in
+    let u = ways_at value w v in
+    let t = leaf_of choice v in
+    let so = subst (λ (y : LeafValue). AreCountedWith M family E E p q v (onto u (kept_by true t u.behind)) y) (no.at_each v) (subst (λ y. AreCountedWith M family E E p q v y (value (leaf_of (plain c.in_ok-in_no.in_no) v))) (yes.at_each v) over) in
+    ap (λ y. both_at M family p q v y (value (leaf_of (plain c.in_ok-in_no.in_no) v))) (yes.at_each v)
+    ∙ (ap (λ (y : LeafValue). both_at M family p q v (onto u (kept_by true t u.behind)) y) (no.at_each v)
+    ∙ group_joins M g.met.L.Leaf.laws o.mode A family.variables few (final_heads M o) (final_idle M g.met.L.Leaf.laws o A family.variables few) t (projected ts p) (projected ts q) u
+    (counted value family a (numbered w.behind) v c.requires.states.behind) so.0 so.1))
+    c.after_both.ensures.counted c.after_both.ensures.made
+
+-- ---- loops
+
+pub through_body-after_list-requires : goal.through_body-after_list-requires
+through_body-after_list-requires g t c κs within =
+    let value = g.L.Leaf.value in
+    let M = g.L.Leaf.meaning in
+    let family = c.args.family.now in
+    let a = c.args.tables.now.leaves in
+    let b = c.inside.new.tables.leaves in
+    let d = c.enter.new.tables.leaves in
+    let f = c.args.finals.now in
+    let l = parts_of c.args.the_loop.now.parts in
+    let n = family.variables in
+    let p = whole family.program.now in
+    let same = c.body.ensures in
+    let part = subst (λ x. IsCodeOf n x) (sym same) (body_fits n l c.requires.own.parts) in
+    let loops = subst (λ x. HasLoopsOf p x) (sym same) (body_loops p l c.requires.own.loops) in
+    let small = subst (λ x. size_of x ≤ size_in l) (sym same) (body_small l) in
+    let states = c.in_ok-start.ensures.states in
+    let memory = memory_stays value M family b d f c.in_ok-start.ensures.keeps (memory_stays value M family a b f c.in_ok-entered.ensures.keeps c.requires.memory) in
+    (omega (arith, small), search rules)
+
+pub through_body-returns-clause-made : goal.through_body-returns-clause-made
+through_body-returns-clause-made g t c =
+    let value = g.L.Leaf.value in
+    let M = g.L.Leaf.meaning in
+    let family = c.args.family.now in
+    let E = ended_heads M family in
+    let mode = family.options.now.mode in
+    let l = parts_of c.args.the_loop.now.parts in
+    let at = plain c.args.at.now in
+    let a = c.args.tables.now.leaves in
+    let b = c.inside.new.tables.leaves in
+    let d = c.enter.new.tables.leaves in
+    if_made_as value family c.after_list.result a d c.after_list.new.tables.leaves (λ v. after_at M family (code c.body.result.now) v (ways_at value c.in_ok-start.start v)) (λ v. body_with M family E l v (value (leaf_of at v)))
+    (keeps_both a b d c.in_ok-entered.ensures.keeps c.in_ok-start.ensures.keeps)
+    (λ v.
+    let x = value (leaf_of at v) in
+    ap (λ k. after_at M family k v (ways_at value c.in_ok-start.start v)) c.body.ensures
+    ∙ (ap (after_at M family (body_of l) v) (c.in_ok-start.ensures.at_each v ∙ ap enter (c.in_ok-entered.ensures.at_each v))
+    ∙ entered_is M mode (final_heads M family.options.now) (truths_in family.choices.now v) l x))
+    c.after_list.ensures.made
+
+pub lap-enter-requires-clause-state : goal.lap-enter-requires-clause-state
+lap-enter-requires-clause-state g t c = c.in_ok-on.ensures.state
+
+pub lap-after_list-requires : goal.lap-after_list-requires
+lap-after_list-requires g t c κs within =
+    let value = g.L.Leaf.value in
+    let M = g.L.Leaf.meaning in
+    let family = c.args.family.now in
+    let b = c.through_body.new.tables.leaves in
+    let d = c.going_on.new.tables.leaves in
+    let e = c.enter.new.tables.leaves in
+    let f = c.through_body.new.finals in
+    let own = subst (λ p. ArePartsOf family.variables (parts_of p)) c.in-TestFirst.is c.requires.own.parts in
+    let loops = subst (λ p. HasLoopsIn (whole family.program.now) (parts_of p)) c.in-TestFirst.is c.requires.own.loops in
+    let small = ap (λ p. size_in (parts_of p)) c.in-TestFirst.is in
+    let states = c.in_ok-start-in-TestFirst.ensures.states in
+    let memory = memory_stays value M family d e f c.in_ok-start-in-TestFirst.ensures.keeps (memory_stays value M family b d f c.in_ok-on.ensures.keeps c.in_ok-left.ensures.memory) in
+    (omega (arith, small), search rules)
+
+pub lap-returns-in-TestFirst-clause-lifted : goal.lap-returns-in-TestFirst-clause-lifted
+lap-returns-in-TestFirst-clause-lifted g t c =
+    let value = g.L.Leaf.value in
+    let M = g.L.Leaf.meaning in
+    let family = c.args.family.now in
+    let H = final_heads M family.options.now in
+    let mode = family.options.now.mode in
+    let i = c.in-TestFirst in
+    let at = plain c.args.at.now in
+    let a = c.args.tables.now.leaves in
+    let b = c.through_body.new.tables.leaves in
+    let d = c.going_on.new.tables.leaves in
+    let e = c.enter.new.tables.leaves in
+    let z = c.after_list.new.tables.leaves in
+    let left = c.in_ok-left.ensures.made in
+    let on = c.in_ok-on.ensures in
+    let start = c.in_ok-start-in-TestFirst.ensures in
+    let made = c.in_ok-made-in-TestFirst.ensures.made in
+    record {
+      state = made.states.behind;
+      keeps = keeps_both a e z (keeps_both a d e (keeps_both a b d left.keeps on.keeps) start.keeps) made.keeps;
+      at_each = λ v.
+          let ts = truths_in family.choices.now v in
+          let x = value (leaf_of at v) in
+          ap (λ (u : Ways). u.behind) (made.at_each v ∙ ap (after_at M family (code i.step.now) v) (start.at_each v ∙ ap enter (on.at_each v ∙ ap (going_on M) (left.at_each v))))
+          ∙ ap (λ p. (passed M mode H (projected ts (code i.step.now)) (enter (going_on M (through_body M mode H (parts_at ts (parts_of p)) x)))).behind) i.is
+          ∙ ap (λ p. lap M mode H (parts_at ts (parts_of p)) x) (sym i.is);
+    }
+
+pub lap-returns-clause-lifted : goal.lap-returns-clause-lifted
+lap-returns-clause-lifted g t c =
+    let value = g.L.Leaf.value in
+    let M = g.L.Leaf.meaning in
+    let family = c.args.family.now in
+    let H = final_heads M family.options.now in
+    let mode = family.options.now.mode in
+    let i = c.in-TestLast in
+    let at = plain c.args.at.now in
+    let a = c.args.tables.now.leaves in
+    let b = c.through_body.new.tables.leaves in
+    let d = c.going_on.new.tables.leaves in
+    let z = c.stepped.new.tables.leaves in
+    let left = c.in_ok-left.ensures.made in
+    let on = c.in_ok-on.ensures in
+    if_is_lifted value family c.stepped.result a z (λ v. lap_at M family (parts_of c.args.the_loop.now.parts) v (value (leaf_of at v))) (lap_at M family (parts_of c.args.the_loop.now.parts)) at (λ v. refl)
+    (if_lifted_is value family c.stepped.result a d z (λ v. assumed M mode (term i.test.now) true) (λ v. lap_at M family (parts_of c.args.the_loop.now.parts) v (value (leaf_of at v))) (plain c.in_ok-on.on)
+    (keeps_both a b d left.keeps on.keeps)
+    (λ v.
+    let ts = truths_in family.choices.now v in
+    let x = value (leaf_of at v) in
+    ap (λ (u : LeafValue). assumed M mode (term i.test.now) true u) (on.at_each v ∙ ap (going_on M) (left.at_each v))
+    ∙ ap (λ p. assumed M mode (term i.test.now) true (going_on M (through_body M mode H (parts_at ts (parts_of p)) x))) i.is
+    ∙ ap (λ p. lap M mode H (parts_at ts (parts_of p)) x) (sym i.is))
+    c.stepped.ensures)
+
+pub lap-returns-clause-memory : goal.lap-returns-clause-memory
+lap-returns-clause-memory g t c =
+    let value = g.L.Leaf.value in
+    let M = g.L.Leaf.meaning in
+    let family = c.args.family.now in
+    let d = c.going_on.new.tables.leaves in
+    let f = c.through_body.new.finals in
+    memory_lifted value M family c.stepped.result d c.stepped.new.tables.leaves f _ _ c.stepped.ensures (memory_stays value M family c.through_body.new.tables.leaves d f c.in_ok-on.ensures.keeps c.in_ok-left.ensures.memory)
+
+pub head_at-returns-clause-keeps : goal.head_at-returns-clause-keeps
+head_at-returns-clause-keeps g t c =
+    keeps_both c.args.tables.now.leaves c.lap.new.tables.leaves c.joined.new.tables.leaves c.in_ok-again.ensures.lifted.keeps c.in_ok-next.ensures.keeps
+
+pub head_at-returns-clause-memory : goal.head_at-returns-clause-memory
+head_at-returns-clause-memory g t c =
+    memory_stays g.L.Leaf.value g.L.Leaf.meaning c.args.family.now c.lap.new.tables.leaves c.joined.new.tables.leaves c.lap.new.finals c.in_ok-next.ensures.keeps c.in_ok-again.ensures.memory
+
+pub after_loop-through_body-requires : goal.after_loop-through_body-requires
+after_loop-through_body-requires g t c κs within =
+    let at = c.in_ok-last.ensures.lifted.state in
+    let memory = c.in_ok-last.ensures.memory in
+    (omega arith, search rules)
+
+pub after_loop-failing-requires-clause-at : goal.after_loop-failing-requires-clause-at
+after_loop-failing-requires-clause-at g t c =
+    state_stays g.L.Leaf.value c.args.family.now c.final_tree.new.tables.leaves c.through_body.new.tables.leaves (numbered c.in_ok-last.last) c.in_ok-left.ensures.made.keeps c.in_ok-last.ensures.lifted.state
+
+pub after_loop-behind_loop-requires-clause-states : goal.after_loop-behind_loop-requires-clause-states
+after_loop-behind_loop-requires-clause-states g t c =
+    let value = g.L.Leaf.value in
+    let family = c.args.family.now in
+    let a = c.args.tables.now.leaves in
+    let b = c.final_tree.new.tables.leaves in
+    let d = c.through_body.new.tables.leaves in
+    let e = c.failing.new.tables.leaves in
+    states_stay value family a e c.args.ways (keeps_both a d e (keeps_both a b d c.in_ok-last.ensures.lifted.keeps c.in_ok-left.ensures.made.keeps) c.in_ok-failed.ensures.keeps) c.requires.states
+
+pub after_loop-behind_loop-requires-clause-body : goal.after_loop-behind_loop-requires-clause-body
+after_loop-behind_loop-requires-clause-body g t c =
+    states_stay g.L.Leaf.value c.args.family.now c.through_body.new.tables.leaves c.failing.new.tables.leaves c.in_ok-left.left c.in_ok-failed.ensures.keeps c.in_ok-left.ensures.made.states
+
+pub after_loop-returns-clause-made : goal.after_loop-returns-clause-made
+after_loop-returns-clause-made g t c =
+    let value = g.L.Leaf.value in
+    let M = g.L.Leaf.meaning in
+    let family = c.args.family.now in
+    let E = ended_heads M family in
+    let w = c.args.ways in
+    let H = final_heads M family.options.now in
+    let mode = family.options.now.mode in
+    let l = parts_of c.args.the_loop.now.parts in
+    let a = c.args.tables.now.leaves in
+    let b = c.final_tree.new.tables.leaves in
+    let d = c.through_body.new.tables.leaves in
+    let e = c.failing.new.tables.leaves in
+    let last = c.in_ok-last.ensures.lifted in
+    let left = c.in_ok-left.ensures.made in
+    let failed = c.in_ok-failed.ensures in
+    if_made_as value family c.behind_loop.result a e c.behind_loop.new.tables.leaves
+    (λ v. behind_loop M (ways_at value w v) (value (leaf_of (plain c.in_ok-failed.failed) v)) (ways_at value c.in_ok-left.left v)) (λ v. behind_with M family E l v (ways_at value w v) (final_at M family l v (ways_at value w v).behind))
+    (keeps_both a d e (keeps_both a b d last.keeps left.keeps) failed.keeps)
+    (λ v.
+    let u = ways_at value w v in
+    let ts = truths_in family.choices.now v in
+    let x = value (leaf_of (plain c.in_ok-last.last) v) in
+    let fails : value (leaf_of (plain c.in_ok-failed.failed) v) ≡ failing M mode H (parts_at ts l) x
+    = failed.at_each v ∙ (ap (failing_so M mode l x) (left.at_each v) ∙ failing_is M mode H ts l x) in
+    ap (λ (y : LeafValue). behind_loop M u y (ways_at value c.in_ok-left.left v)) fails
+    ∙ (ap (behind_loop M u (failing M mode H (parts_at ts l) x)) (left.at_each v)
+    ∙ ap (λ (y : LeafValue). behind_with M family E l v u y) (last.at_each v)))
+    c.behind_loop.ensures
+
+pub after_loop-returns-clause-memory : goal.after_loop-returns-clause-memory
+after_loop-returns-clause-memory g t c =
+    let value = g.L.Leaf.value in
+    let M = g.L.Leaf.meaning in
+    let family = c.args.family.now in
+    let d = c.through_body.new.tables.leaves in
+    let e = c.failing.new.tables.leaves in
+    let f = c.through_body.new.finals in
+    memory_made value M family c.behind_loop.result e c.behind_loop.new.tables.leaves f _ c.behind_loop.ensures (memory_stays value M family d e f c.in_ok-failed.ensures.keeps c.in_ok-left.ensures.memory)
 
 pub final_tree-returns-then-is_nothing_everywhere-clause-lifted : goal.final_tree-returns-then-is_nothing_everywhere-clause-lifted
 final_tree-returns-then-is_nothing_everywhere-clause-lifted g t c =
@@ -137,9 +529,25 @@ final_tree-returns-then-is_nothing_everywhere-clause-lifted g t c =
     let M = g.L.Leaf.meaning in
     let family = c.args.family.now in
     let forest = c.args.tables.now.leaves in
-    shared_made value family c.share.result forest (final_at M family (term c.args.the_loop.now.test.now) (code c.args.the_loop.now.step.now) (code c.args.the_loop.now.body.now)) (numbered c.args.t.now) c.requires.state
-    (nothing_ends value family M g.met.L.Leaf.laws (c.transfer_is_sound.ensures.answers family.options.now.mode) c.requires.family forest (numbered c.args.t.now) (term c.args.the_loop.now.test.now) (code c.args.the_loop.now.step.now) (code c.args.the_loop.now.body.now) c.requires.state (c.is_nothing_everywhere.ensures c.if-is_nothing_everywhere.true))
+    let l = parts_of c.args.the_loop.now.parts in
+    shared_made value family c.share.result forest (final_at M family l) (numbered c.args.t.now) c.requires.state
+    (nothing_ends value family M g.met.L.Leaf.laws (c.transfer_is_sound.ensures.answers family.options.now.mode) c.requires.family forest (numbered c.args.t.now) l c.requires.state (c.is_nothing_everywhere.ensures c.if-is_nothing_everywhere.true))
     c.share.ensures
+
+pub final_tree-returns-in-Some-clause-lifted : goal.final_tree-returns-in-Some-clause-lifted
+final_tree-returns-in-Some-clause-lifted g t c =
+    let family = c.args.family.now in
+    let key : Entered = record { place = c.args.the_loop.now.place; number = c.number.result } in
+    recalled_made g.L.Leaf.value g.L.Leaf.meaning family c.share-in-Some.result c.args.tables.now.leaves c.args.finals.now key c.in-Some.last.now (numbered c.args.t.now) (parts_of c.args.the_loop.now.parts)
+    c.requires.memory (search rules) (sym c.number.ensures.number) c.requires.state c.requires.own.here c.share-in-Some.ensures
+
+pub final_tree-returns-clause-memory : goal.final_tree-returns-clause-memory
+final_tree-returns-clause-memory g t c =
+    let family = c.args.family.now in
+    let key : Entered = record { place = c.args.the_loop.now.place; number = c.number.result } in
+    let last = c.in_ok-last.ensures in
+    remembered g.L.Leaf.value g.L.Leaf.meaning family c.args.tables.now.leaves c.final_by_rounds.new.tables.leaves c.final_by_rounds.new.finals _ key c.in_ok-kept.kept (numbered c.args.t.now) (numbered c.in_ok-last.last)
+    (parts_of c.args.the_loop.now.parts) last.memory (sym c.number.ensures.number) c.requires.state c.requires.own.here last.lifted c.in_ok-kept.ensures c.in_ok-remember.ensures
 
 pub final_by_rounds-loop-k-init : goal.final_by_rounds-loop-k-init
 final_by_rounds-loop-k-init g t c =
@@ -277,31 +685,6 @@ widened-loop-k-preserved g t c =
 pub widened-returns-clause-keeps : goal.widened-returns-clause-keeps
 widened-returns-clause-keeps g t c = c.loop-k.invariant.keeps
 
-pub after_stmt-returns-then-is_nothing_everywhere-clause-lifted : goal.after_stmt-returns-then-is_nothing_everywhere-clause-lifted
-after_stmt-returns-then-is_nothing_everywhere-clause-lifted g t c =
-    let value = g.L.Leaf.value in
-    let M = g.L.Leaf.meaning in
-    let family = c.args.family.now in
-    let forest = c.args.tables.now.leaves in
-    shared_made value family c.share.result forest (after_at M family (front c.args.s.now Done)) (numbered c.args.t.now) c.requires.state
-    (nothing_stays value family M g.met.L.Leaf.laws (c.transfer_is_sound.ensures.answers family.options.now.mode) c.requires.family forest (numbered c.args.t.now) (front c.args.s.now Done) c.requires.state (c.is_nothing_everywhere.ensures c.if-is_nothing_everywhere.true))
-    c.share.ensures
-
-pub final_tree-returns-in-Some-clause-lifted : goal.final_tree-returns-in-Some-clause-lifted
-final_tree-returns-in-Some-clause-lifted g t c =
-    let family = c.args.family.now in
-    let key : Entered = record { place = c.args.the_loop.now.place; number = c.number.result } in
-    recalled_made g.L.Leaf.value g.L.Leaf.meaning family c.share-in-Some.result c.args.tables.now.leaves c.args.finals.now key c.in-Some.last.now (numbered c.args.t.now) (term c.args.the_loop.now.test.now) (code c.args.the_loop.now.step.now) (code c.args.the_loop.now.body.now)
-    c.requires.memory (search rules) (sym c.number.ensures.number) c.requires.state c.requires.own.here c.share-in-Some.ensures
-
-pub final_tree-returns-clause-memory : goal.final_tree-returns-clause-memory
-final_tree-returns-clause-memory g t c =
-    let family = c.args.family.now in
-    let key : Entered = record { place = c.args.the_loop.now.place; number = c.number.result } in
-    let last = c.in_ok-last.ensures in
-    remembered g.L.Leaf.value g.L.Leaf.meaning family c.args.tables.now.leaves c.final_by_rounds.new.tables.leaves c.final_by_rounds.new.finals _ key c.in_ok-kept.kept (numbered c.args.t.now) (numbered c.in_ok-last.last)
-    (term c.args.the_loop.now.test.now) (code c.args.the_loop.now.step.now) (code c.args.the_loop.now.body.now) last.memory (sym c.number.ensures.number) c.requires.state c.requires.own.here last.lifted c.in_ok-kept.ensures c.in_ok-remember.ensures
-
 pub narrowed-returns-clause-memory : goal.narrowed-returns-clause-memory
 narrowed-returns-clause-memory g t c =
     let value = g.L.Leaf.value in
@@ -317,80 +700,6 @@ narrowed-returns-clause-memory g t c =
 pub widened-returns-then-is_everywhere-clause-memory : goal.widened-returns-then-is_everywhere-clause-memory
 widened-returns-then-is_everywhere-clause-memory g t c =
     memory_same g.L.Leaf.value g.L.Leaf.meaning c.args.family.now c.loop-k.tables.leaves c.below.new.tables.leaves c.loop-k.finals c.in_ok-stable.ensures.same c.loop-k.invariant.memory
-
-pub after_if-after_list-requires : goal.after_if-after_list-requires
-after_if-after_list-requires g t c κs within =
-    let value = g.L.Leaf.value in
-    let M = g.L.Leaf.meaning in
-    let family = c.args.family.now in
-    let a = c.args.tables.now.leaves in
-    let b = c.stepped.new.tables.leaves in
-    let d = c.stepped-2.new.tables.leaves in
-    let f = c.args.finals.now in
-    let state = state_stays value family b d (numbered c.in_ok-in_yes.in_yes) c.in_ok-in_no.ensures.keeps c.in_ok-in_yes.ensures.state in
-    let memory = memory_stays value M family b d f c.in_ok-in_no.ensures.keeps (memory_stays value M family a b f c.in_ok-in_yes.ensures.keeps c.requires.memory) in
-    (omega arith, search rules)
-
-pub after_if-returns-clause-memory : goal.after_if-returns-clause-memory
-after_if-returns-clause-memory g t c =
-    memory_joint g.L.Leaf.value g.L.Leaf.meaning c.args.family.now c.joined.result c.after_list-2.new.tables.leaves c.joined.new.tables.leaves c.after_list-2.new.finals _ _ _
-    c.joined.ensures c.in_ok-after_no.ensures.memory
-
-pub after_group-after_list-requires : goal.after_group-after_list-requires
-after_group-after_list-requires g t c κs within =
-    let value = g.L.Leaf.value in
-    let M = g.L.Leaf.meaning in
-    let family = c.args.family.now in
-    let a = c.args.tables.now.leaves in
-    let b = c.kept.new.tables.leaves in
-    let d = c.kept-2.new.tables.leaves in
-    let f = c.args.finals.now in
-    let state = state_stays value family b d (numbered c.in_ok-in_yes.in_yes) c.in_ok-in_no.ensures.keeps c.in_ok-in_yes.ensures.state in
-    let memory = memory_stays value M family b d f c.in_ok-in_no.ensures.keeps (memory_stays value M family a b f c.in_ok-in_yes.ensures.keeps c.requires.memory) in
-    (omega arith, search rules)
-
-pub after_group-returns-clause-memory : goal.after_group-returns-clause-memory
-after_group-returns-clause-memory g t c =
-    memory_joint g.L.Leaf.value g.L.Leaf.meaning c.args.family.now c.joined.result c.after_list-2.new.tables.leaves c.joined.new.tables.leaves c.after_list-2.new.finals _ _ _
-    c.joined.ensures c.in_ok-after_no.ensures.memory
-
-pub after_stmt-returns-in-Assign-clause-memory : goal.after_stmt-returns-in-Assign-clause-memory
-after_stmt-returns-in-Assign-clause-memory g t c =
-    memory_lifted g.L.Leaf.value g.L.Leaf.meaning c.args.family.now c.stepped.result c.args.tables.now.leaves c.stepped.new.tables.leaves c.args.finals.now _ _ c.stepped.ensures c.requires.memory
-
-pub after_stmt-returns-in-Input-clause-memory : goal.after_stmt-returns-in-Input-clause-memory
-after_stmt-returns-in-Input-clause-memory g t c =
-    memory_lifted g.L.Leaf.value g.L.Leaf.meaning c.args.family.now c.stepped-in-Input.result c.args.tables.now.leaves c.stepped-in-Input.new.tables.leaves c.args.finals.now _ _ c.stepped-in-Input.ensures c.requires.memory
-
-pub after_stmt-returns-in-Assert-clause-memory : goal.after_stmt-returns-in-Assert-clause-memory
-after_stmt-returns-in-Assert-clause-memory g t c =
-    memory_lifted g.L.Leaf.value g.L.Leaf.meaning c.args.family.now c.stepped-in-Assert.result c.args.tables.now.leaves c.stepped-in-Assert.new.tables.leaves c.args.finals.now _ _ c.stepped-in-Assert.ensures c.requires.memory
-
-pub after_stmt-returns-in_ok-last-in-While-clause-memory : goal.after_stmt-returns-in_ok-last-in-While-clause-memory
-after_stmt-returns-in_ok-last-in-While-clause-memory g t c =
-    memory_lifted g.L.Leaf.value g.L.Leaf.meaning c.args.family.now c.stepped-in-While.result c.final_tree.new.tables.leaves c.stepped-in-While.new.tables.leaves c.final_tree.new.finals _ _
-    c.stepped-in-While.ensures c.in_ok-last-in-While.ensures.memory
-
-pub head_at-after_list-requires : goal.head_at-after_list-requires
-head_at-after_list-requires g t c κs within =
-    let value = g.L.Leaf.value in
-    let M = g.L.Leaf.meaning in
-    let family = c.args.family.now in
-    let state = c.in_ok-inside.ensures.state in
-    let memory = memory_stays value M family c.args.tables.now.leaves c.stepped.new.tables.leaves c.args.finals.now c.in_ok-inside.ensures.keeps c.requires.memory in
-    (omega arith, search rules)
-
-pub head_at-returns-clause-keeps : goal.head_at-returns-clause-keeps
-head_at-returns-clause-keeps g t c =
-    let a = c.args.tables.now.leaves in
-    let b = c.stepped.new.tables.leaves in
-    let d = c.after_list.new.tables.leaves in
-    let e = c.after_list-2.new.tables.leaves in
-    keeps_both a e c.joined.new.tables.leaves (keeps_both a d e (keeps_both a b d c.in_ok-inside.ensures.keeps c.in_ok-behind.ensures.lifted.keeps) c.in_ok-again.ensures.lifted.keeps) c.in_ok-next.ensures.keeps
-
-pub head_at-returns-clause-memory : goal.head_at-returns-clause-memory
-head_at-returns-clause-memory g t c =
-    memory_stays g.L.Leaf.value g.L.Leaf.meaning c.args.family.now c.after_list-2.new.tables.leaves c.joined.new.tables.leaves c.after_list-2.new.finals c.in_ok-next.ensures.keeps c.in_ok-again.ensures.memory
 
 pub narrowed-returns-then-number-clause-memory : goal.narrowed-returns-then-number-clause-memory
 narrowed-returns-then-number-clause-memory g t c =

@@ -1,5 +1,5 @@
 use Rattle.std.proofs.Common.{sym, ap, ◌∙◌, true}
-use Rattle.c_tree.specs.View.{term, code}
+use Rattle.plain_analysis.specs.View.{parts_of}
 use Rattle.decision_tree.specs.Plain.{leaf_of}
 use Rattle.decision_tree.specs.View.{numbered, plain}
 use Rattle.leaf_domain.specs.Leaves.{LeafValue}
@@ -17,15 +17,13 @@ returns-clause-lifted g c =
     let family = c.args.family.now in
     let R = ruled_heads value M family c.args.rule.now in
     let here = plain c.args.here.now in
-    let e = term c.args.the_loop.now.test.now in
-    let step = code c.args.the_loop.now.step.now in
-    let body = code c.args.the_loop.now.body.now in
+    let l = parts_of c.args.the_loop.now.parts in
     let t = plain c.args.t.now in
     let a = c.args.tables.now.leaves in
     let b = c.ruled_tree.new.tables.leaves in
     let made = numbered c.in_ok-made.made in
-    then_made value family c.kept.result a b c.kept.new.tables.leaves (head_with M family R c.args.the_loop.now.place e step body) (λ v. kept_by true (leaf_of here v)) (head_with M family (heads_in value M family c.args.rule.now here) c.args.the_loop.now.place e step body) t made c.in_ok-made.ensures.lifted
-    (λ v. head_kept value M family (leaf_of here v) R c.args.the_loop.now.place e step body v (value (leaf_of t v))
+    then_made value family c.kept.result a b c.kept.new.tables.leaves (head_with M family R c.args.the_loop.now.place l) (λ v. kept_by true (leaf_of here v)) (head_with M family (heads_in value M family c.args.rule.now here) c.args.the_loop.now.place l) t made c.in_ok-made.ensures.lifted
+    (λ v. head_kept value M family (leaf_of here v) R c.args.the_loop.now.place l v (value (leaf_of t v))
     (ap (λ (x : LeafValue). x.variables) (sym (c.in_ok-made.ensures.lifted.at_each v)) ∙ (counted value family b made v c.in_ok-made.ensures.lifted.state ∙ sym (counted value family a (numbered c.args.t.now) v c.requires.state))))
     c.kept.ensures
 

@@ -1,5 +1,5 @@
 use Rattle.std.proofs.Common.{sym, subst, IfOk}
-use Rattle.c_tree.specs.View.{term, code}
+use Rattle.plain_analysis.specs.View.{parts_of}
 use Rattle.decision_tree.specs.View.{numbered, plain}
 use Rattle.lifted_analysis.specs.Rules.{ruled_heads, head_with, IsRuled}
 use Rattle.lifted_analysis.specs.States.{IsLifted}
@@ -11,7 +11,7 @@ returns-in-Rounds-clause-lifted g c =
     let value = g.L.Leaf.value in
     let M = g.L.Leaf.meaning in
     let family = c.args.family.now in
-    subst (λ r. IfOk c.final_tree.result (λ x. IsLifted value family c.args.tables.now.leaves c.final_tree.new.tables.leaves (head_with M family (ruled_heads value M family r) c.args.the_loop.now.place (term c.args.the_loop.now.test.now) (code c.args.the_loop.now.step.now) (code c.args.the_loop.now.body.now)) (plain c.args.t.now) (numbered x)))
+    subst (λ r. IfOk c.final_tree.result (λ x. IsLifted value family c.args.tables.now.leaves c.final_tree.new.tables.leaves (head_with M family (ruled_heads value M family r) c.args.the_loop.now.place (parts_of c.args.the_loop.now.parts)) (plain c.args.t.now) (numbered x)))
     (sym c.in-Rounds.is) c.final_tree.ensures.lifted
 
 pub returns-in-Lines-clause-memory : goal.returns-in-Lines-clause-memory

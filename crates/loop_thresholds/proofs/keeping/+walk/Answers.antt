@@ -3,7 +3,7 @@ use Rattle.c_tree.specs.Tree.{Done}
 use Rattle.c_tree.specs.View.{front}
 use Rattle.loop_thresholds.specs.Numbers.{numbers_of}
 use Rattle.loop_thresholds.specs.Keeping.{keep_near}
-use Rattle.loop_thresholds.proofs.Kept.{keep_near-more, kept_input, kept_skip, kept_if, kept_while, kept_cond}
+use Rattle.loop_thresholds.proofs.Kept.{keep_near-more, kept_input, kept_skip, kept_if, kept_while, kept_do, kept_leave, kept_cond}
 use Rattle.loop_thresholds.proofs.keeping.+walk.Goals as goal
 
 pub keep_list-loop-s-preserved : goal.keep_list-loop-s-preserved
@@ -44,3 +44,14 @@ keep_stmt-returns-in_ok-keep_list-in-Cond t c =
     let others = c.deref-in-Cond-2 in
     let all = kept_cond c.args.kept.now.items c.keep_list-in-Cond.new.kept.items c.args.s.now i.number i.yes i.no yes.result.now others.result.now i.is yes.ensures.value c.in_ok-keep_list-in-Cond.ensures others.ensures.value in
     subst (λ l. OnOk c.keep_list-in-Cond-2.result (c.keep_list-in-Cond-2.new.kept.items ≡ l)) all c.keep_list-in-Cond-2.ensures
+
+pub keep_stmt-returns-in_ok-keep_list-in-Do : goal.keep_stmt-returns-in_ok-keep_list-in-Do
+keep_stmt-returns-in_ok-keep_list-in-Do t c =
+    let i = c.in-Do in
+    let body = c.deref-in-Do in
+    let all = kept_do c.args.kept.now.items c.keep_list-in-Do.new.kept.items c.args.s.now i.place i.body i.test_place i.test body.result.now i.is body.ensures.value c.in_ok-keep_list-in-Do.ensures in
+    subst (λ l. OnOk c.keep_term-in-Do.result (c.keep_term-in-Do.new.kept.items ≡ l)) all c.keep_term-in-Do.ensures
+
+pub keep_stmt-returns-in-Leave : goal.keep_stmt-returns-in-Leave
+keep_stmt-returns-in-Leave t c =
+    subst (λ l. OnOk c.keep_jump.result (c.keep_jump.new.kept.items ≡ l)) (kept_leave c.args.kept.now.items c.args.s.now c.in-Leave.place c.in-Leave.jump c.in-Leave.is) c.keep_jump.ensures

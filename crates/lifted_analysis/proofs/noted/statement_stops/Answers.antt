@@ -1,7 +1,7 @@
 use Rattle.decision_tree.specs.View.{numbered}
 use Rattle.lifted_analysis.proofs.StateLemmas.{state_numbered}
 use Rattle.lifted_analysis.proofs.EntryLemmas.{stops_reduced}
-use Rattle.lifted_analysis.proofs.noted.may_stop.Goals as goal
+use Rattle.lifted_analysis.proofs.noted.statement_stops.Goals as goal
 
 pub map_in-requires-clause-t : goal.map_in-requires-clause-t
 map_in-requires-clause-t g c = state_numbered g.L.Leaf.value c.args.family.now c.args.tables.now.leaves (numbered c.args.t.now) c.requires.state
