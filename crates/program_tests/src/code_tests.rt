@@ -67,7 +67,7 @@ fn codes_of_files_without_groups(rt: HostRuntime) -> Result<(), Fail> {
             "file: F11 at 3:8\n",
         ),
         (
-            "int main(void) {\ndo ; while (1);\n}\n",
+            "int main(void) {\ngoto end;\n}\n",
             "file: F12 at 2:1\n",
         ),
         ("int main(void) {\nx = 1;\n}\n", "file: F13 at 2:1\n"),
