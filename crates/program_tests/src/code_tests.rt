@@ -66,10 +66,7 @@ fn codes_of_files_without_groups(rt: HostRuntime) -> Result<(), Fail> {
             "int mask;\nint main(void) {\nmask = 0xFFFFFFFF;\n}\n",
             "file: F11 at 3:8\n",
         ),
-        (
-            "int main(void) {\ngoto end;\n}\n",
-            "file: F12 at 2:1\n",
-        ),
+        ("int main(void) {\ngoto end;\n}\n", "file: F12 at 2:1\n"),
         ("int main(void) {\nx = 1;\n}\n", "file: F13 at 2:1\n"),
         (
             "int x;\nint x;\nint main(void) { }\n",
