@@ -10,7 +10,7 @@ from collections.abc import Callable, Iterable, Iterator
 
 from .expressions import COMPARING, Expressions
 from .families import Family
-from .outcomes import MAIN, code_of, declarators, statics
+from .outcomes import MAIN, TYPE, code_of, declarators, statics
 
 SWITCHES = ("FAST", "SAFE", "LOG")
 CONSTANTS = ("BASE", "STEP", "TOP", "LAST")
@@ -47,6 +47,7 @@ HELD: dict[str, Callable[[Family], object]] = {
     "a `#define`": lambda family: re.search(r"#\s*define\b", code_of(family.file)),
     "a number feature in the code": Family.valued,
     "a `for`": lambda family: re.search(r"\bfor\b", code_of(family.file)),
+    "one that declares": lambda family: re.search(rf"\bfor\s*\(\s*(const\s+)?{TYPE}\b", code_of(family.file)),
     "a `do`": lambda family: re.search(r"\bdo\b", code_of(family.file)),
     "a `break`": lambda family: re.search(r"\bbreak\b", code_of(family.file)),
     "a `continue`": lambda family: re.search(r"\bcontinue\b", code_of(family.file)),
@@ -325,16 +326,30 @@ class Maker:
         great = [it["name"] for it in self.numbers if it["min"] > 100]
         return self.rng.choice((*(it for it in self.constants if it not in great), *[str(self.rng.randint(1, 12))] * 4))
 
-    def counted(self, counter: str, scope: list[str], depth: int) -> list[str]:
-        """A `for` that its counter ends."""
+    def counted(self, counter: str, scope: list[str], depth: int, declares: bool = False) -> list[str]:
+        """A `for` that its counter ends, which it perhaps declares."""
         rng = self.rng
         form = rng.choices((UP, DOWN, TO_ZERO), (7, 2, 1))[0]
         bound = self.bound()
-        start, test, step = (rng.choice(it).format(i=counter, n=bound, call=self.taken()) for it in form)
+        starts = [it for it in form[0] if it.startswith("{i} = ")] if declares else form[0]
+        start, test, step = (rng.choice(it).format(i=counter, n=bound, call=self.taken()) for it in (starts, *form[1:]))
+        if declares:
+            start = f"{rng.choice(TYPES)} {start}"
         if form is UP and rng.random() < 0.15:
             test = f"{test} && ({self.over(scope).test(1)})"
         held = self.in_loop(lambda: self.body(scope, depth) if step else self.block(scope, depth - 1, f"{counter}++;"))
         return [self.header(start, test, step), *held]
+
+    def declaring(self, scope: list[str], depth: int) -> list[str]:
+        """A `for` that declares its counter, which is out of scope behind it."""
+        counter = self.locals.pop()
+        self.counters.append(counter)
+        self.counting.append(counter)
+        lines = self.counted(counter, scope, depth, declares=True)
+        self.counting.pop()
+        self.counters.remove(counter)
+        self.locals.append(counter)
+        return lines
 
     def any_loop(self, scope: list[str], depth: int) -> list[str]:
         """A loop that need not end."""
@@ -359,6 +374,8 @@ class Maker:
         rng = self.rng
         if rng.random() < 0.25:
             return self.any_loop(scope, depth)
+        if self.locals and rng.random() < 0.3:
+            return self.declaring(scope, depth)
         left = [it for it in self.counters if it not in self.counting]
         if not left:
             return [self.simple(scope)]

@@ -12,7 +12,7 @@ use Rattle.c_grammar.specs.declared.constants.NameKind.TheVariants as kinds
 use Rattle.c_grammar.specs.declared.items.Item.{Item}
 use Rattle.c_grammar.specs.declared.items.Sign.{Sign}
 use Rattle.c_grammar.specs.declared.items.Sign.TheVariants as signs
-use Rattle.c_grammar.specs.Grammar.{at, Prefix, Positive, Negative, Inverse, prefix_sign, Expresses, number, name, group, prefix, loose, binary, Update, Sum, Difference, Product, Quotient, Remainder, update_sign, Count, Raise, Lower, count_sign, Callable, of_input, of_function, Changes, assignment, input_taken, compound_assignment, count_behind, count_before, Clause, no_clause, clause, Tests, no_test, test, LocalDeclarator, uninitialised, initialised, from_call, Shape, Listed, Stated, Chained, Locals, Writes, none, more, choice, local, static_local, last_local, next_local, ends, otherwise, elif, change, call, void_call, assert, skip, block, while, for, if_then, if_else, do_while, break, continue, return, Optional, absent, present, Typed, int, int32, signed, signed_int, int_signed, Qualifier, Unqualified, Constant, Counted, behind, Qualified, unqualified, const_before, const_behind, Begins, only_type, then_type, enumeration, Declarator, bare, positive, negative, counted, Ending, variables_end, constants_end, enumeration_end, comma_end, Defines, defined, negative_defined, enclosed, negative_enclosed, Part, Outer, Vars, Later, Declares, nothing, variables, prototype, void_prototype, definition, section, last_var, next_var, end_part, else_part, elif_part, Gap, Empty, no_more, empty_section, empty_end, empty_else, empty_elif, Body, body, Main, main, file, is_group}
+use Rattle.c_grammar.specs.Grammar.{at, Prefix, Positive, Negative, Inverse, prefix_sign, Expresses, number, name, group, prefix, loose, binary, Update, Sum, Difference, Product, Quotient, Remainder, update_sign, Count, Raise, Lower, count_sign, Callable, of_input, of_function, Changes, assignment, input_taken, compound_assignment, count_behind, count_before, Clause, no_clause, clause, Tests, no_test, test, LocalDeclarator, uninitialised, initialised, from_call, Shape, Listed, Stated, Chained, Locals, Writes, none, more, choice, local, static_local, last_local, next_local, ends, otherwise, elif, change, call, void_call, assert, skip, block, while, for, declaring_for, if_then, if_else, do_while, break, continue, return, Optional, absent, present, Typed, int, int32, signed, signed_int, int_signed, Qualifier, Unqualified, Constant, Counted, behind, Qualified, unqualified, const_before, const_behind, Begins, only_type, then_type, enumeration, Declarator, bare, positive, negative, counted, Ending, variables_end, constants_end, enumeration_end, comma_end, Defines, defined, negative_defined, enclosed, negative_enclosed, Part, Outer, Vars, Later, Declares, nothing, variables, prototype, void_prototype, definition, section, last_var, next_var, end_part, else_part, elif_part, Gap, Empty, no_more, empty_section, empty_end, empty_else, empty_elif, Body, body, Main, main, file, is_group}
 use Rattle.c_grammar.specs.Constants.{kind_behind_name, AreApart, DirectivesStandApart}
 
 -- text in front of which directives may stand: where what follows it is apart, the whole is
@@ -87,11 +87,11 @@ qualified_apart (unqualified y) w h = type_apart kinds.Variable y w h
 qualified_apart (const_before p y) w h = (tt, type_apart kinds.Constant y w h)
 qualified_apart (const_behind p {us} y) w h = subst (AreApart kinds.Variable false) (sym (append_assoc us (at p signs.Const ∷ []) w)) (type_apart kinds.Variable y (at p signs.Const ∷ w) (tt, h))
 
--- a declarator, before what ends it
-local_apart : {ts : List Item} {c : Code} {kind : Qualifier} → LocalDeclarator kind ts c → Runs kind ts
-local_apart (uninitialised p x) = λ joined y w g h. name_apart Unqualified p x joined (y ∷ w) (h true)
-local_apart (initialised p q x {kind} {ts} e) = λ joined y w g h. name_apart kind p x joined (at q signs.Equals ∷ (ts ++ y ∷ w)) (tt, expr_runs kind e true y w g h)
-local_apart (from_call p q r s t x {kind} {f} g) = λ joined y w i h.
+-- a declarator of a declaration of this kind, before what ends it
+local_apart : {ts : List Item} {c : Code} {held : Qualifier} (kind : Qualifier) → LocalDeclarator held ts c → Runs kind ts
+local_apart kind (uninitialised p x) = λ joined y w g h. name_apart kind p x joined (y ∷ w) (h true)
+local_apart kind (initialised p q x {ts = ts} e) = λ joined y w g h. name_apart kind p x joined (at q signs.Equals ∷ (ts ++ y ∷ w)) (tt, expr_runs kind e true y w g h)
+local_apart kind (from_call p q r s t x {f = f} g) = λ joined y w i h.
     name_apart kind p x joined (at q signs.Equals ∷ at r f ∷ at s signs.Open ∷ at t signs.Close ∷ y ∷ w) (tt, function_apart (names_of kind) r true (at s signs.Open ∷ at t signs.Close ∷ y ∷ w) g (tt, (tt, h false)))
 
 -- ---- changes, and the parentheses of a `for`
@@ -141,27 +141,27 @@ vars_apart (next_var p gs {us} {vs} {x} {n} {ds} {kind} d v) = λ w h.
 
 -- ---- statements
 
--- the declarators of a declaration stand where its names are of its kind
+-- the declarators of a declaration stand where its names are of its kind, which in a `for` is not that of the declarators
 abbrev ShapeLeaves : Shape → List Item → Type 0
 ShapeLeaves (Listed i) ts = Leaves ts
 ShapeLeaves (Stated i b) ts = Leaves ts
 ShapeLeaves (Chained i) ts = Leaves ts
-ShapeLeaves (Locals kind) ts = (w : List Item) → AreApart kinds.Variable false w → AreApart (names_of kind) false (ts ++ w)
+ShapeLeaves (Locals held) ts = (kind : Qualifier) (w : List Item) → AreApart kinds.Variable false w → AreApart (names_of kind) false (ts ++ w)
 
 code_apart : {s : Shape} {ts : List Item} {c : Code} → Writes s ts c → ShapeLeaves s ts
 code_apart none = λ w h. h
 code_apart (more {b} {ts} {us} s l) = both ts us (code_apart s) (code_apart l)
 code_apart (choice p n {ts} {us} {vs} s t l) = λ w h. ((refl, refl), both ts (us ++ vs) (code_apart s) (both us vs (code_apart t) (code_apart l)) w h)
-code_apart (local {ts} {us} {vs} q v l) = λ w h.
+code_apart (local {ts} {us} {vs} {kind = kind} q v l) = λ w h.
     let re : (ts ++ (us ++ vs)) ++ w ≡ ts ++ (us ++ (vs ++ w)) = simp append_assoc in
-    subst (AreApart kinds.Variable false) (sym re) (qualified_apart q (us ++ (vs ++ w)) (code_apart v (vs ++ w) (code_apart l w h)))
+    subst (AreApart kinds.Variable false) (sym re) (qualified_apart q (us ++ (vs ++ w)) (code_apart v kind (vs ++ w) (code_apart l w h)))
 code_apart (static_local p {ts} {us} {vs} q v l) = λ w h.
     let re : (ts ++ (us ++ vs)) ++ w ≡ ts ++ (us ++ (vs ++ w)) = simp append_assoc in
     (tt, subst (AreApart kinds.Variable false) (sym re) (qualified_apart q (us ++ (vs ++ w)) (vars_apart v (vs ++ w) (code_apart l w h))))
-code_apart (last_local p {ts} {kind = kind} d) = λ w h.
-    subst (AreApart (names_of kind) false) (sym (append_assoc ts (at p signs.Semicolon ∷ []) w)) (local_apart d false (at p signs.Semicolon) w refl (λ b. (tt, h)))
-code_apart (next_local p {ts} {us} {kind = kind} d v) = λ w h.
-    subst (AreApart (names_of kind) false) (sym (append_assoc ts (at p signs.Comma ∷ us) w)) (local_apart d false (at p signs.Comma) (us ++ w) refl (λ b. (tt, code_apart v w h)))
+code_apart (last_local p {ts} d) = λ kind w h.
+    subst (AreApart (names_of kind) false) (sym (append_assoc ts (at p signs.Semicolon ∷ []) w)) (local_apart kind d false (at p signs.Semicolon) w refl (λ b. (tt, h)))
+code_apart (next_local p {ts} {us} d v) = λ kind w h.
+    subst (AreApart (names_of kind) false) (sym (append_assoc ts (at p signs.Comma ∷ us) w)) (local_apart kind d false (at p signs.Comma) (us ++ w) refl (λ b. (tt, code_apart v kind w h)))
 code_apart (ends p) = λ w h. ((refl, refl), h)
 code_apart (otherwise p q {ts} s) = λ w h. ((refl, refl), both ts (at q signs.GroupEnd ∷ []) (code_apart s) (λ v i. ((refl, refl), i)) w h)
 code_apart (elif p n {ts} {us} s t) = λ w h. ((refl, refl), both ts us (code_apart s) (code_apart t) w h)
@@ -177,6 +177,11 @@ code_apart (for p q r z {b} {ts} {us} {vs} {ws} first middle last s) = λ w h.
     let re : (ts ++ at r signs.Semicolon ∷ (us ++ (vs ++ at z signs.Close ∷ ws))) ++ w ≡ ts ++ at r signs.Semicolon ∷ tail = simp append_assoc in
     let rest : AreApart kinds.Variable false tail = test_apart middle (vs ++ at z signs.Close ∷ (ws ++ w)) (clause_apart last false (at z signs.Close) (ws ++ w) refl (λ c. (tt, code_apart s w h))) in
     (tt, (tt, subst (AreApart kinds.Variable false) (sym re) (clause_apart first false (at r signs.Semicolon) tail refl (λ c. (tt, rest)))))
+code_apart (declaring_for p q z {b} {ts} {ds} {us} {vs} {ws} {kind = kind} g l middle last s) = λ w h.
+    let tail : List Item = us ++ (vs ++ at z signs.Close ∷ (ws ++ w)) in
+    let re : (ts ++ (ds ++ (us ++ (vs ++ at z signs.Close ∷ ws)))) ++ w ≡ ts ++ (ds ++ tail) = simp append_assoc in
+    let rest : AreApart kinds.Variable false tail = test_apart middle (vs ++ at z signs.Close ∷ (ws ++ w)) (clause_apart last false (at z signs.Close) (ws ++ w) refl (λ c. (tt, code_apart s w h))) in
+    (tt, (tt, subst (AreApart kinds.Variable false) (sym re) (qualified_apart g (ds ++ tail) (code_apart l kind tail rest))))
 code_apart (if_then p q r {b} {ts} {us} e s) = λ w h. (tt, (tt, closed false e (at r signs.Close) us w refl (λ b. (tt, code_apart s w h))))
 code_apart (if_else p q r z {b} {ts} {us} {vs} e s t) = λ w h.
     (tt, (tt, closed false e (at r signs.Close) (us ++ at z signs.Else ∷ vs) w refl (λ b. (tt, both us (at z signs.Else ∷ vs) (code_apart s) (λ v i. (tt, code_apart t v i)) w h))))

@@ -10,7 +10,7 @@ use Rattle.c_grammar.specs.declared.items.Sign.{Sign}
 use Rattle.c_grammar.specs.declared.items.Sign.TheVariants as signs
 use Rattle.c_grammar.specs.Statics.{static_behind}
 use Rattle.c_grammar.specs.Scopes.{IsBeside, AreBeside, DirectivesStandBeside}
-use Rattle.c_grammar.specs.Grammar.{at, Begins, only_type, then_type, enumeration, Ending, variables_end, constants_end, enumeration_end, comma_end, Qualifier, Part, Outer, Vars, Later, Declares, nothing, variables, prototype, void_prototype, definition, section, last_var, next_var, end_part, else_part, elif_part, Shape, Listed, Stated, Chained, Locals, Writes, none, more, choice, local, static_local, last_local, next_local, ends, otherwise, elif, change, call, void_call, assert, skip, block, while, for, if_then, if_else, do_while, break, continue, return, Gap, Empty, no_more, empty_section, empty_end, empty_else, empty_elif, Body, body, Main, main, file, is_group}
+use Rattle.c_grammar.specs.Grammar.{at, Begins, only_type, then_type, enumeration, Ending, variables_end, constants_end, enumeration_end, comma_end, Qualifier, Part, Outer, Vars, Later, Declares, nothing, variables, prototype, void_prototype, definition, section, last_var, next_var, end_part, else_part, elif_part, Shape, Listed, Stated, Chained, Locals, Writes, none, more, choice, local, static_local, last_local, next_local, ends, otherwise, elif, change, call, void_call, assert, skip, block, while, for, declaring_for, if_then, if_else, do_while, break, continue, return, Gap, Empty, no_more, empty_section, empty_end, empty_else, empty_elif, Body, body, Main, main, file, is_group}
 use Rattle.c_grammar.proofs.Quiet.{is_quiet, AreQuiet, expr_quiet, function_quiet, change_quiet, clause_quiet, tests_quiet, optional_quiet, type_quiet, qualified_quiet, locals_quiet, declarator_quiet, extern_quiet, definition_quiet, redo_quiet, return_quiet}
 
 -- ---- text with no directive
@@ -123,6 +123,11 @@ code_beside (for p q r z {b} {ts} {us} {vs} {ws} a t d s) = λ w h.
     let step : Leaves (vs ++ at z signs.Close ∷ ws) = both vs (at z signs.Close ∷ ws) (quiet_leaves vs (clause_quiet d)) (λ v i. (tt, code_beside s v i)) in
     let tests : Leaves (us ++ (vs ++ at z signs.Close ∷ ws)) = both us (vs ++ at z signs.Close ∷ ws) (quiet_leaves us (tests_quiet t)) step in
     (tt, (tt, both ts (at r signs.Semicolon ∷ (us ++ (vs ++ at z signs.Close ∷ ws))) (quiet_leaves ts (clause_quiet a)) (λ v i. (tt, tests v i)) w h))
+code_beside (declaring_for p q z {b} {ts} {ds} {us} {vs} {ws} g l t d s) = λ w h.
+    let step : Leaves (vs ++ at z signs.Close ∷ ws) = both vs (at z signs.Close ∷ ws) (quiet_leaves vs (clause_quiet d)) (λ v i. (tt, code_beside s v i)) in
+    let tests : Leaves (us ++ (vs ++ at z signs.Close ∷ ws)) = both us (vs ++ at z signs.Close ∷ ws) (quiet_leaves us (tests_quiet t)) step in
+    let locals : Leaves (ds ++ (us ++ (vs ++ at z signs.Close ∷ ws))) = both ds (us ++ (vs ++ at z signs.Close ∷ ws)) (quiet_leaves ds (locals_quiet l)) tests in
+    (tt, (tt, both ts (ds ++ (us ++ (vs ++ at z signs.Close ∷ ws))) (quiet_leaves ts (qualified_quiet g)) locals w h))
 code_beside (if_then p q r {b} {ts} {us} e s) = λ w h. (tt, (tt, both ts (at r signs.Close ∷ us) (quiet_leaves ts (expr_quiet e)) (λ v i. (tt, code_beside s v i)) w h))
 code_beside (if_else p q r z {b} {ts} {us} {vs} e s t) = λ w h.
     let branches : Leaves (us ++ at z signs.Else ∷ vs) = both us (at z signs.Else ∷ vs) (code_beside s) (λ v i. (tt, code_beside t v i)) in

@@ -7,8 +7,9 @@ use Rattle.c_grammar.specs.declared.items.Sign.TheVariants as signs
 use Rattle.c_grammar.specs.declared.items.Item.{Item}
 use Rattle.c_grammar.specs.Grammar.{at, tighter, applied, updated, changed_by_one, Qualifier, Unqualified, Constant, Counted, uncounted, File, file_of}
 use Rattle.c_grammar.specs.Ahead.{Loose, NoElse}
-use Rattle.c_grammar.specs.Machine.{Tailing, Another, Final, Frame, Paren, Pre, Left, Stack, Top, Braces, Yes, No, ThenOf, ElseOf, LoopOf, DoOf, AsStatement, AsStart, AsStep, Use, ToAssign, ToInitialise, ToUpdate, ToAssert, ToChoose, ToLoop, ToRepeat, ToRedo, ToReturn, Pending, OfStatement, OfLocal, Sections, Outermost, InPart, InLast, Aim, ToPrototype, ToMain, ReadingState, Outside, AfterStatic, AfterExtern, AfterConst, AfterEnum, AfterVoidType, AfterType, NoWord, StaticWord, ExternWord, ConstWord, Declaring, Bare, Starting, Negating, Started, Listing, Enumerated, AfterDefine, Defining, NegativeDefining, Enclosing, NegativeEnclosing, Enclosed, Parameters, InParameters, AfterVoid, AfterParameters, Ready, LocalConst, LocalType, NextLocal, LocalNamed, Ended, Wants, Has, Counting, Named, Opens, ForOpens, StartComes, TestComes, StepComes, RedoOpens, RedoComes, VoidComes, VoidCloses, CallComes, CallOpens, CallCloses, Finishing, Over, with_declared, folded, linked, run, InStatic, BehindStatic, BehindStaticConst, BehindStaticType, BeforeStaticName, BehindStaticName, BehindStaticEquals, BehindStaticMinus, BehindStaticNumber, StaticPart}
-use Rattle.c_grammar.proofs.Complete.{pre_absorbs, left_absorbs, loop_absorbs, else_absorbs, then_absorbs}
+use Rattle.c_grammar.specs.Machine.{Tailing, Another, Final, Frame, Paren, Pre, Left, Stack, Top, Braces, Yes, No, ThenOf, ElseOf, LoopOf, DoOf, Start, ChangeStart, DeclaredStart, Scope, ListScope, ForScope, AsStatement, AsStart, AsStep, Use, ToAssign, ToInitialise, ToUpdate, ToAssert, ToChoose, ToLoop, ToRepeat, ToRedo, ToReturn, Pending, OfStatement, OfLocal, Sections, Outermost, InPart, InLast, Aim, ToPrototype, ToMain, ReadingState, Outside, AfterStatic, AfterExtern, AfterConst, AfterEnum, AfterVoidType, AfterType, NoWord, StaticWord, ExternWord, ConstWord, Declaring, Bare, Starting, Negating, Started, Listing, Enumerated, AfterDefine, Defining, NegativeDefining, Enclosing, NegativeEnclosing, Enclosed, Parameters, InParameters, AfterVoid, AfterParameters, Ready, LocalConst, LocalType, NextLocal, LocalNamed, Ended, Wants, Has, Counting, Named, Opens, ForOpens, StartComes, TestComes, StepComes, RedoOpens, RedoComes, VoidComes, VoidCloses, CallComes, CallOpens, CallCloses, Finishing, Over, with_declared, with_declarator, behind_declaration, initialising, started_by, linked, run, InStatic, BehindStatic, BehindStaticConst, BehindStaticType, BeforeStaticName, BehindStaticName, BehindStaticEquals, BehindStaticMinus, BehindStaticNumber, StaticPart}
+use Rattle.c_grammar.proofs.CompleteExpressions.{pre_absorbs, left_absorbs}
+use Rattle.c_grammar.proofs.StatementEnds.{loop_absorbs, else_absorbs, then_absorbs}
 
 pub nowhere : Place
 nowhere = record { line = 0; column = 0 }
@@ -42,7 +43,7 @@ closes (Yes links n made outer) c = closes outer (linked links (Cond n (followed
 closes (No links n first made outer) c = closes outer (linked links (Cond n first (followed made c) Done))
 closes (ThenOf p e outer) c = let h = closes outer (If p e c Done Done) in (h.0, then_absorbs p e outer c (closers outer) (closers_no_else outer) ∙ h.1)
 closes (ElseOf p e first outer) c = let h = closes outer (If p e first c Done) in (h.0, else_absorbs p e first outer c (closers outer) ∙ h.1)
-closes (LoopOf start p e advance outer) c = let h = closes outer (followed start (While p e advance c Done)) in (h.0, loop_absorbs start p e advance outer c (closers outer) ∙ h.1)
+closes (LoopOf start p e advance outer) c = let h = closes outer (started_by start (While p e advance c Done)) in (h.0, loop_absorbs start p e advance outer c (closers outer) ∙ h.1)
 closes (DoOf p outer) c = closes outer (Do p c nowhere (Var 0) Done)
 
 -- the rest of a file
@@ -55,28 +56,33 @@ unfolding run
 closes_ready outer = let h = closes outer (Skip nowhere Done) in (at nowhere signs.Semicolon ∷ closers outer, h.0, h.1)
 
 -- behind the parentheses of a `for`, and in them
-closes_loop : (start : Code) (p : Place) (e : Term) (advance : Code) (outer : Stack) → Rest (Ready (LoopOf start p e advance outer))
+closes_loop : (start : Start) (p : Place) (e : Term) (advance : Code) (outer : Stack) → Rest (Ready (LoopOf start p e advance outer))
 unfolding run closers
 closes_loop start p e advance outer = let h = closes (LoopOf start p e advance outer) (Skip nowhere Done) in (at nowhere signs.Semicolon ∷ closers outer, h.0, h.1)
 
-closes_step : (start : Code) (p : Place) (e : Term) (outer : Stack) → Rest (StepComes start p e outer)
+closes_step : (start : Start) (p : Place) (e : Term) (outer : Stack) → Rest (StepComes start p e outer)
 unfolding run
 closes_step start p e outer = let h = closes_loop start p e Done outer in (at nowhere signs.Close ∷ h.0, h.1, h.2)
 
-closes_test : (start : Code) (outer : Stack) → Rest (TestComes start outer)
+closes_test : (start : Start) (outer : Stack) → Rest (TestComes start outer)
 unfolding run
 closes_test start outer = let h = closes_step start nowhere (Number (pos 1)) outer in (at nowhere signs.Semicolon ∷ h.0, h.1, h.2)
 
-closes_start : (outer : Stack) → Rest (StartComes outer)
+closes_start : (p : Place) (outer : Stack) → Rest (StartComes p outer)
 unfolding run
-closes_start outer = let h = closes_test Done outer in (at nowhere signs.Semicolon ∷ h.0, h.1, h.2)
+closes_start p outer = let h = closes_test (ChangeStart Done) outer in (at nowhere signs.Semicolon ∷ h.0, h.1, h.2)
+
+-- behind a declaration
+closes_declaration : (scope : Scope) → Rest (behind_declaration scope)
+closes_declaration (ListScope outer) = closes_ready outer
+closes_declaration (ForScope p made outer) = closes_test (DeclaredStart p made) outer
 
 closes_pending : (made : Pending) → Rest (Finishing made)
 unfolding run
 closes_pending (OfStatement (AsStatement outer) c) = let h = closes outer c in (at nowhere signs.Semicolon ∷ closers outer, h.0, h.1)
-closes_pending (OfStatement (AsStart outer) c) = let h = closes_test c outer in (at nowhere signs.Semicolon ∷ h.0, h.1, h.2)
+closes_pending (OfStatement (AsStart outer) c) = let h = closes_test (ChangeStart c) outer in (at nowhere signs.Semicolon ∷ h.0, h.1, h.2)
 closes_pending (OfStatement (AsStep start p e outer) c) = let h = closes_loop start p e c outer in (at nowhere signs.Close ∷ h.0, h.1, h.2)
-closes_pending (OfLocal kind outer c) = let h = closes_ready (folded outer c) in (at nowhere signs.Semicolon ∷ h.0, h.1, h.2)
+closes_pending (OfLocal kind scope c) = let h = closes_declaration (with_declarator scope c) in (at nowhere signs.Semicolon ∷ h.0, h.1, h.2)
 
 record CanEnd (state : ReadingState) : Type 0 where
   pub tail : List Item
@@ -87,15 +93,15 @@ record CanEnd (state : ReadingState) : Type 0 where
 ends_use : (u : Use) (e : Term) → CanEnd (Has [] u e)
 unfolding run
 ends_use (ToAssign p x (AsStatement outer)) e = let h = closes outer (Assign p x e Done) in record { tail = at nowhere signs.Semicolon ∷ closers outer; made = h.0; reads = h.1; tight = λ k. tt }
-ends_use (ToAssign p x (AsStart outer)) e = let h = closes_test (Assign p x e Done) outer in record { tail = at nowhere signs.Semicolon ∷ h.0; made = h.1; reads = h.2; tight = λ k. tt }
+ends_use (ToAssign p x (AsStart outer)) e = let h = closes_test (ChangeStart (Assign p x e Done)) outer in record { tail = at nowhere signs.Semicolon ∷ h.0; made = h.1; reads = h.2; tight = λ k. tt }
 ends_use (ToAssign p x (AsStep start q f outer)) e = let h = closes_loop start q f (Assign p x e Done) outer in record { tail = at nowhere signs.Close ∷ h.0; made = h.1; reads = h.2; tight = λ k. tt }
-ends_use (ToInitialise kind p x outer) e = let h = closes_ready (folded outer (Assign p x e Done)) in record { tail = at nowhere signs.Semicolon ∷ h.0; made = h.1; reads = h.2; tight = λ k. tt }
+ends_use (ToInitialise kind p x scope) e = let h = closes_declaration (with_declarator scope (Assign p x e Done)) in record { tail = at nowhere signs.Semicolon ∷ h.0; made = h.1; reads = h.2; tight = λ k. tt }
 ends_use (ToUpdate p x u (AsStatement outer)) e = let h = closes outer (updated p x u e) in record { tail = at nowhere signs.Semicolon ∷ closers outer; made = h.0; reads = h.1; tight = λ k. tt }
-ends_use (ToUpdate p x u (AsStart outer)) e = let h = closes_test (updated p x u e) outer in record { tail = at nowhere signs.Semicolon ∷ h.0; made = h.1; reads = h.2; tight = λ k. tt }
+ends_use (ToUpdate p x u (AsStart outer)) e = let h = closes_test (ChangeStart (updated p x u e)) outer in record { tail = at nowhere signs.Semicolon ∷ h.0; made = h.1; reads = h.2; tight = λ k. tt }
 ends_use (ToUpdate p x u (AsStep start q f outer)) e = let h = closes_loop start q f (updated p x u e) outer in record { tail = at nowhere signs.Close ∷ h.0; made = h.1; reads = h.2; tight = λ k. tt }
 ends_use (ToAssert p outer) e = let h = closes outer (Assert p e Done) in record { tail = at nowhere signs.Close ∷ at nowhere signs.Semicolon ∷ closers outer; made = h.0; reads = h.1; tight = λ k. tt }
 ends_use (ToChoose p outer) e = let h = closes (ThenOf p e outer) (Skip nowhere Done) in record { tail = at nowhere signs.Close ∷ at nowhere signs.Semicolon ∷ closers (ThenOf p e outer); made = h.0; reads = h.1; tight = λ k. tt }
-ends_use (ToLoop p outer) e = let h = closes_loop Done p e Done outer in record { tail = at nowhere signs.Close ∷ h.0; made = h.1; reads = h.2; tight = λ k. tt }
+ends_use (ToLoop p outer) e = let h = closes_loop (ChangeStart Done) p e Done outer in record { tail = at nowhere signs.Close ∷ h.0; made = h.1; reads = h.2; tight = λ k. tt }
 ends_use (ToRepeat start p outer) e = let h = closes_step start p e outer in record { tail = at nowhere signs.Semicolon ∷ h.0; made = h.1; reads = h.2; tight = λ k. tt }
 ends_use (ToRedo p c q outer) e = let h = closes outer (Do p c q e Done) in record { tail = at nowhere signs.Close ∷ at nowhere signs.Semicolon ∷ closers outer; made = h.0; reads = h.1; tight = λ k. tt }
 ends_use (ToReturn p outer) e = let h = closes outer (Leave p (Return e) Done) in record { tail = at nowhere signs.Semicolon ∷ closers outer; made = h.0; reads = h.1; tight = λ k. tt }
@@ -108,9 +114,9 @@ ends_expr (Pre v ∷ fs) u e = let h = ends_expr fs u (applied v e) in record { 
 ends_expr (Left op a ∷ fs) u e = let h = ends_expr fs u (Binary op a e) in record { tail = h.tail; made = h.made; reads = left_absorbs op a fs u e h.tail (h.tight (suc (tighter op))) ∙ h.reads; tight = h.tight }
 
 -- behind the name of a declarator in `main`
-after_name : (kind : Qualifier) (p : Place) (x : ℕ) (outer : Stack) → Rest (LocalNamed kind p x outer)
+after_name : (kind : Qualifier) (p : Place) (x : ℕ) (scope : Scope) → Rest (LocalNamed kind p x scope)
 unfolding run
-after_name kind p x outer = let h = closes_ready (folded outer (Assign p x (Var 0) Done)) in (at nowhere signs.Equals ∷ at nowhere (signs.Name 0) ∷ at nowhere signs.Semicolon ∷ h.0, h.1, h.2)
+after_name kind p x scope = let h = closes_declaration (with_declarator scope (Assign p x (Var 0) Done)) in (at nowhere signs.Equals ∷ at nowhere (signs.Name 0) ∷ at nowhere signs.Semicolon ∷ h.0, h.1, h.2)
 
 after_declarations : (secs : Sections) (ds : List Declared) → Rest (Outside secs ds)
 unfolding run
@@ -179,12 +185,12 @@ completes (InParameters aim) = let h = after_parameters aim in (at nowhere signs
 completes (AfterVoid aim) = let h = after_parameters aim in (at nowhere signs.Close ∷ h.0, h.1, h.2)
 completes (AfterParameters aim) = after_parameters aim
 completes (Ready outer) = closes_ready outer
-completes (LocalConst outer) = let h = after_name Constant nowhere 0 outer in (at nowhere signs.Int ∷ at nowhere (signs.Name 0) ∷ h.0, h.1, h.2)
-completes (LocalType Unqualified words outer) = let h = after_name Unqualified nowhere 0 outer in (at nowhere (signs.Name 0) ∷ h.0, h.1, h.2)
-completes (LocalType Constant words outer) = let h = after_name Constant nowhere 0 outer in (at nowhere (signs.Name 0) ∷ h.0, h.1, h.2)
-completes (LocalType (Counted last) words outer) = let h = after_name (Counted last) nowhere 0 outer in (at nowhere (signs.Name 0) ∷ h.0, h.1, h.2)
-completes (NextLocal kind outer) = let h = after_name kind nowhere 0 outer in (at nowhere (signs.Name 0) ∷ h.0, h.1, h.2)
-completes (LocalNamed kind p x outer) = after_name kind p x outer
+completes (LocalConst scope) = let h = after_name (initialising scope Constant) nowhere 0 scope in (at nowhere signs.Int ∷ at nowhere (signs.Name 0) ∷ h.0, h.1, h.2)
+completes (LocalType Unqualified words scope) = let h = after_name (initialising scope Unqualified) nowhere 0 scope in (at nowhere (signs.Name 0) ∷ h.0, h.1, h.2)
+completes (LocalType Constant words scope) = let h = after_name (initialising scope Constant) nowhere 0 scope in (at nowhere (signs.Name 0) ∷ h.0, h.1, h.2)
+completes (LocalType (Counted last) words scope) = let h = after_name (initialising scope (Counted last)) nowhere 0 scope in (at nowhere (signs.Name 0) ∷ h.0, h.1, h.2)
+completes (NextLocal kind scope) = let h = after_name (initialising scope kind) nowhere 0 scope in (at nowhere (signs.Name 0) ∷ h.0, h.1, h.2)
+completes (LocalNamed kind p x scope) = after_name kind p x scope
 completes (InStatic part outer) = after_static part outer
 completes (Ended outer c) = let h = closes outer c in (closers outer, h.0, h.1)
 completes (Wants fs u) = let h = ends_expr fs u (Var 0) in (at nowhere (signs.Name 0) ∷ h.tail, h.made, h.reads)
@@ -192,8 +198,8 @@ completes (Has fs u e) = let h = ends_expr fs u e in (h.tail, h.made, h.reads)
 completes (Counting p u site) = let h = closes_pending (OfStatement site (changed_by_one p 0 u)) in (at nowhere (signs.Name 0) ∷ h.0, h.1, h.2)
 completes (Named p x site) = let h = ends_use (ToAssign p x site) (Var 0) in (at nowhere signs.Equals ∷ at nowhere (signs.Name 0) ∷ h.tail, h.made, h.reads)
 completes (Opens u) = let h = ends_use u (Var 0) in (at nowhere signs.Open ∷ at nowhere (signs.Name 0) ∷ h.tail, h.made, h.reads)
-completes (ForOpens outer) = let h = closes_start outer in (at nowhere signs.Open ∷ h.0, h.1, h.2)
-completes (StartComes outer) = closes_start outer
+completes (ForOpens p outer) = let h = closes_start p outer in (at nowhere signs.Open ∷ h.0, h.1, h.2)
+completes (StartComes p outer) = closes_start p outer
 completes (TestComes start outer) = closes_test start outer
 completes (StepComes start p e outer) = closes_step start p e outer
 completes (RedoOpens p c outer) = let h = closes outer (Do p c nowhere (Var 0) Done) in (at nowhere signs.Open ∷ at nowhere (signs.Name 0) ∷ at nowhere signs.Close ∷ at nowhere signs.Semicolon ∷ closers outer, h.0, h.1)

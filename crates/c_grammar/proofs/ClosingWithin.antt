@@ -8,12 +8,13 @@ use Rattle.c_grammar.specs.declared.items.Sign.TheVariants as signs
 use Rattle.c_grammar.specs.declared.items.Item.{Item}
 use Rattle.c_grammar.specs.Grammar.{at, tighter, applied, updated, changed_by_one, Raise, Qualifier, Unqualified, Constant, Counted, uncounted, File, file_of}
 use Rattle.c_grammar.specs.Ahead.{Loose, NoElse}
-use Rattle.c_grammar.specs.Machine.{Tailing, Another, Final, Frame, Paren, Pre, Left, Stack, Top, Braces, Yes, No, ThenOf, ElseOf, LoopOf, DoOf, Site, AsStatement, AsStart, AsStep, Use, ToAssign, ToInitialise, ToUpdate, ToAssert, ToChoose, ToLoop, ToRepeat, ToRedo, ToReturn, Pending, OfStatement, OfLocal, Sections, Outermost, InPart, InLast, Aim, ToPrototype, ToMain, ReadingState, Outside, AfterStatic, AfterExtern, AfterConst, AfterEnum, AfterVoidType, AfterType, NoWord, StaticWord, ExternWord, ConstWord, Declaring, Bare, Starting, Negating, Started, Listing, Enumerated, AfterDefine, Defining, NegativeDefining, Enclosing, NegativeEnclosing, Enclosed, Parameters, InParameters, AfterVoid, AfterParameters, Ready, LocalConst, LocalType, NextLocal, LocalNamed, Ended, Wants, Has, Counting, Named, Opens, ForOpens, StartComes, TestComes, StepComes, RedoOpens, RedoComes, VoidComes, VoidCloses, CallComes, CallOpens, CallCloses, Finishing, Over, with_declared, folded, linked, step, StaticPart, InStatic, BehindStatic, BehindStaticConst, BehindStaticType, BeforeStaticName, BehindStaticName, BehindStaticEquals, BehindStaticMinus, BehindStaticNumber}
+use Rattle.c_grammar.specs.Machine.{Tailing, Another, Final, Frame, Paren, Pre, Left, Stack, Top, Braces, Yes, No, ThenOf, ElseOf, LoopOf, DoOf, Start, ChangeStart, DeclaredStart, Scope, ListScope, ForScope, Site, AsStatement, AsStart, AsStep, Use, ToAssign, ToInitialise, ToUpdate, ToAssert, ToChoose, ToLoop, ToRepeat, ToRedo, ToReturn, Pending, OfStatement, OfLocal, Sections, Outermost, InPart, InLast, Aim, ToPrototype, ToMain, ReadingState, Outside, AfterStatic, AfterExtern, AfterConst, AfterEnum, AfterVoidType, AfterType, NoWord, StaticWord, ExternWord, ConstWord, Declaring, Bare, Starting, Negating, Started, Listing, Enumerated, AfterDefine, Defining, NegativeDefining, Enclosing, NegativeEnclosing, Enclosed, Parameters, InParameters, AfterVoid, AfterParameters, Ready, LocalConst, LocalType, NextLocal, LocalNamed, Ended, Wants, Has, Counting, Named, Opens, ForOpens, StartComes, TestComes, StepComes, RedoOpens, RedoComes, VoidComes, VoidCloses, CallComes, CallOpens, CallCloses, Finishing, Over, with_declared, with_declarator, behind_declaration, initialising, started_by, linked, step, StaticPart, InStatic, BehindStatic, BehindStaticConst, BehindStaticType, BeforeStaticName, BehindStaticName, BehindStaticEquals, BehindStaticMinus, BehindStaticNumber}
 use Rattle.c_grammar.specs.Deep.{guarded}
-use Rattle.c_grammar.proofs.Complete.{pre_step, left_step, loop_step, else_step, then_step}
+use Rattle.c_grammar.proofs.CompleteExpressions.{pre_step, left_step}
+use Rattle.c_grammar.proofs.StatementEnds.{loop_step, else_step, then_step}
 use Rattle.c_grammar.proofs.Closing.{nowhere, closers, closers_no_else}
 use Rattle.c_grammar.proofs.CompleteWithin.{takes, same_within}
-use Rattle.c_grammar.proofs.StatesWithin.{last_sign, then_comes, assigned_there, updated_there}
+use Rattle.c_grammar.proofs.TokensWithin.{last_sign, then_comes, assigned_there, updated_there}
 
 closes : (outer : Stack) (c : Code) (n : ℕ) → (made : File) × (guarded (Ended outer c) n (closers outer) ≡ Ok made)
 unfolding closers guarded
@@ -28,7 +29,7 @@ closes (ElseOf p e first outer) c n =
     let h = closes outer (If p e first c Done) n in
     (h.0, same_within (Ended (ElseOf p e first outer) c) (Ended outer (If p e first c Done)) n refl refl refl refl (closers outer) (λ x y is. else_step p e first outer c x.place x.sign) ∙ h.1)
 closes (LoopOf start p e advance outer) c n =
-    let made : Code = followed start (While p e advance c Done) in
+    let made : Code = started_by start (While p e advance c Done) in
     let h = closes outer made n in
     (h.0, same_within (Ended (LoopOf start p e advance outer) c) (Ended outer made) n refl refl refl refl (closers outer) (λ x y is. loop_step start p e advance outer c x.place x.sign) ∙ h.1)
 closes (DoOf p outer) c n = closes outer (Do p c nowhere (Var 0) Done) 0
@@ -37,14 +38,29 @@ closes (DoOf p outer) c n = closes outer (Do p c nowhere (Var 0) Done) 0
 abbrev pub Rest : ReadingState → ℕ → Type 0
 Rest state n = (tail : List Item) × (made : File) × (guarded state n tail ≡ Ok made)
 
+-- before the test of a `for`
+closes_test : (start : Start) (outer : Stack) (n : ℕ) → Rest (TestComes start outer) n
+unfolding guarded
+closes_test start outer n =
+    let loop : Stack = LoopOf start nowhere (Number (pos 1)) Done outer in
+    let h = closes loop (Skip nowhere Done) 0 in
+    (at nowhere signs.Semicolon ∷ at nowhere signs.Close ∷ at nowhere signs.Semicolon ∷ closers loop, h.0, h.1)
+
+-- where a statement may begin
+closes_ready : (outer : Stack) (n : ℕ) → Rest (Ready outer) n
+unfolding guarded
+closes_ready outer n = let h = closes outer (Skip nowhere Done) 0 in (at nowhere signs.Semicolon ∷ closers outer, h.0, h.1)
+
+-- behind a declaration
+closes_declaration : (scope : Scope) (n : ℕ) → Rest (behind_declaration scope) n
+closes_declaration (ListScope outer) n = closes_ready outer n
+closes_declaration (ForScope p made outer) n = closes_test (DeclaredStart p made) outer n
+
 -- behind a change, where it stands
 after_change : (site : Site) (c : Code) (n : ℕ) → Rest (then_comes site c) n
 unfolding guarded
 after_change (AsStatement outer) c n = let h = closes outer c n in (closers outer, h.0, h.1)
-after_change (AsStart outer) c n =
-    let loop : Stack = LoopOf c nowhere (Number (pos 1)) Done outer in
-    let h = closes loop (Skip nowhere Done) 0 in
-    (at nowhere signs.Semicolon ∷ at nowhere signs.Close ∷ at nowhere signs.Semicolon ∷ closers loop, h.0, h.1)
+after_change (AsStart outer) c n = closes_test (ChangeStart c) outer n
 after_change (AsStep start p e outer) c n = let h = closes (LoopOf start p e c outer) (Skip nowhere Done) 0 in (at nowhere signs.Semicolon ∷ closers (LoopOf start p e c outer), h.0, h.1)
 
 record CanEnd (state : ReadingState) (n : ℕ) : Type 0 where
@@ -60,7 +76,7 @@ ends_change u e (AsStatement outer) c n few is =
     record { tail = at nowhere signs.Semicolon ∷ h.0; made = h.1; reads = takes (Has [] u e) (Ended outer c) nowhere signs.Semicolon n n h.0 is refl refl few ∙ h.2; tight = λ k. tt }
 ends_change u e (AsStart outer) c n few is =
     let h = after_change (AsStart outer) c n in
-    record { tail = at nowhere signs.Semicolon ∷ h.0; made = h.1; reads = takes (Has [] u e) (TestComes c outer) nowhere signs.Semicolon n n h.0 is refl refl few ∙ h.2; tight = λ k. tt }
+    record { tail = at nowhere signs.Semicolon ∷ h.0; made = h.1; reads = takes (Has [] u e) (TestComes (ChangeStart c) outer) nowhere signs.Semicolon n n h.0 is refl refl few ∙ h.2; tight = λ k. tt }
 ends_change u e (AsStep start p t outer) c n few is =
     let h = after_change (AsStep start p t outer) c n in
     record { tail = at nowhere signs.Close ∷ h.0; made = h.1; reads = takes (Has [] u e) (Ready (LoopOf start p t c outer)) nowhere signs.Close n n h.0 is refl refl few ∙ h.2; tight = λ k. tt }
@@ -68,11 +84,10 @@ ends_change u e (AsStep start p t outer) c n few is =
 ends_use : (u : Use) (e : Term) (n : ℕ) → n ≤ 64 → CanEnd (Has [] u e) n
 unfolding guarded
 ends_use (ToAssign p x site) e n few = ends_change (ToAssign p x site) e site (Assign p x e Done) n few (assigned_there p nowhere x e site)
-ends_use (ToInitialise kind p x outer) e n few =
-    let next : Stack = folded outer (Assign p x e Done) in
-    let h = closes next (Skip nowhere Done) 0 in
-    let text : List Item = at nowhere signs.Semicolon ∷ closers next in
-    record { tail = at nowhere signs.Semicolon ∷ text; made = h.0; reads = takes (Has [] (ToInitialise kind p x outer) e) (Ready next) nowhere signs.Semicolon n n text refl refl refl few ∙ h.1; tight = λ k. tt }
+ends_use (ToInitialise kind p x scope) e n few =
+    let next : Scope = with_declarator scope (Assign p x e Done) in
+    let h = closes_declaration next n in
+    record { tail = at nowhere signs.Semicolon ∷ h.0; made = h.1; reads = takes (Has [] (ToInitialise kind p x scope) e) (behind_declaration next) nowhere signs.Semicolon n n h.0 refl refl refl few ∙ h.2; tight = λ k. tt }
 ends_use (ToUpdate p x u site) e n few = ends_change (ToUpdate p x u site) e site (updated p x u e) n few (updated_there p nowhere x u e site)
 ends_use (ToAssert p outer) e n few =
     let h = closes outer (Assert p e Done) 0 in
@@ -83,7 +98,7 @@ ends_use (ToChoose p outer) e n few =
     let text : List Item = at nowhere signs.Semicolon ∷ closers (ThenOf p e outer) in
     record { tail = at nowhere signs.Close ∷ text; made = h.0; reads = takes (Has [] (ToChoose p outer) e) (Ready (ThenOf p e outer)) nowhere signs.Close n n text refl refl refl few ∙ h.1; tight = λ k. tt }
 ends_use (ToLoop p outer) e n few =
-    let loop : Stack = LoopOf Done p e Done outer in
+    let loop : Stack = LoopOf (ChangeStart Done) p e Done outer in
     let h = closes loop (Skip nowhere Done) 0 in
     let text : List Item = at nowhere signs.Semicolon ∷ closers loop in
     record { tail = at nowhere signs.Close ∷ text; made = h.0; reads = takes (Has [] (ToLoop p outer) e) (Ready loop) nowhere signs.Close n n text refl refl refl few ∙ h.1; tight = λ k. tt }
@@ -141,17 +156,12 @@ unfolding guarded
 closes_pending (OfStatement (AsStatement outer) c) n = let h = after_change (AsStatement outer) c 0 in (at nowhere signs.Semicolon ∷ h.0, h.1, h.2)
 closes_pending (OfStatement (AsStart outer) c) n = let h = after_change (AsStart outer) c 0 in (at nowhere signs.Semicolon ∷ h.0, h.1, h.2)
 closes_pending (OfStatement (AsStep start p e outer) c) n = let h = after_change (AsStep start p e outer) c 0 in (at nowhere signs.Close ∷ h.0, h.1, h.2)
-closes_pending (OfLocal kind outer c) n = let h = closes (folded outer c) (Skip nowhere Done) 0 in (at nowhere signs.Semicolon ∷ at nowhere signs.Semicolon ∷ closers (folded outer c), h.0, h.1)
+closes_pending (OfLocal kind scope c) n = let h = closes_declaration (with_declarator scope c) 0 in (at nowhere signs.Semicolon ∷ h.0, h.1, h.2)
 
 -- behind the name of a declarator in `main`
-after_name : (kind : Qualifier) (p : Place) (x : ℕ) (outer : Stack) (n : ℕ) → Rest (LocalNamed kind p x outer) n
+after_name : (kind : Qualifier) (p : Place) (x : ℕ) (scope : Scope) (n : ℕ) → Rest (LocalNamed kind p x scope) n
 unfolding guarded
-after_name kind p x outer n = let h = ends_use (ToInitialise kind p x outer) (Var 0) 0 (omega arith) in (at nowhere signs.Equals ∷ at nowhere (signs.Name 0) ∷ h.tail, h.made, h.reads)
-
--- where a statement may begin
-closes_ready : (outer : Stack) (n : ℕ) → Rest (Ready outer) n
-unfolding guarded
-closes_ready outer n = let h = closes outer (Skip nowhere Done) 0 in (at nowhere signs.Semicolon ∷ closers outer, h.0, h.1)
+after_name kind p x scope n = let h = ends_use (ToInitialise kind p x scope) (Var 0) 0 (omega arith) in (at nowhere signs.Equals ∷ at nowhere (signs.Name 0) ∷ h.tail, h.made, h.reads)
 
 -- in a static declaration of `main`
 after_static : (part : StaticPart) (outer : Stack) (n : ℕ) → Rest (InStatic part outer) n
@@ -198,12 +208,12 @@ goes_on_within (InParameters aim) n few = let h = after_parameters aim 0 in (at 
 goes_on_within (AfterVoid aim) n few = let h = after_parameters aim 0 in (at nowhere signs.Close ∷ h.0, h.1, h.2)
 goes_on_within (AfterParameters aim) n few = after_parameters aim n
 goes_on_within (Ready outer) n few = closes_ready outer n
-goes_on_within (LocalConst outer) n few = let h = after_name Constant nowhere 0 outer 0 in (at nowhere signs.Int ∷ at nowhere (signs.Name 0) ∷ h.0, h.1, h.2)
-goes_on_within (LocalType Unqualified words outer) n few = let h = after_name Unqualified nowhere 0 outer 0 in (at nowhere (signs.Name 0) ∷ h.0, h.1, h.2)
-goes_on_within (LocalType Constant words outer) n few = let h = after_name Constant nowhere 0 outer 0 in (at nowhere (signs.Name 0) ∷ h.0, h.1, h.2)
-goes_on_within (LocalType (Counted last) words outer) n few = let h = after_name (Counted last) nowhere 0 outer 0 in (at nowhere (signs.Name 0) ∷ h.0, h.1, h.2)
-goes_on_within (NextLocal kind outer) n few = let h = after_name kind nowhere 0 outer 0 in (at nowhere (signs.Name 0) ∷ h.0, h.1, h.2)
-goes_on_within (LocalNamed kind p x outer) n few = after_name kind p x outer n
+goes_on_within (LocalConst scope) n few = let h = after_name (initialising scope Constant) nowhere 0 scope 0 in (at nowhere signs.Int ∷ at nowhere (signs.Name 0) ∷ h.0, h.1, h.2)
+goes_on_within (LocalType Unqualified words scope) n few = let h = after_name (initialising scope Unqualified) nowhere 0 scope 0 in (at nowhere (signs.Name 0) ∷ h.0, h.1, h.2)
+goes_on_within (LocalType Constant words scope) n few = let h = after_name (initialising scope Constant) nowhere 0 scope 0 in (at nowhere (signs.Name 0) ∷ h.0, h.1, h.2)
+goes_on_within (LocalType (Counted last) words scope) n few = let h = after_name (initialising scope (Counted last)) nowhere 0 scope 0 in (at nowhere (signs.Name 0) ∷ h.0, h.1, h.2)
+goes_on_within (NextLocal kind scope) n few = let h = after_name (initialising scope kind) nowhere 0 scope 0 in (at nowhere (signs.Name 0) ∷ h.0, h.1, h.2)
+goes_on_within (LocalNamed kind p x scope) n few = after_name kind p x scope n
 goes_on_within (InStatic part outer) n few = after_static part outer n
 goes_on_within (Ended outer c) n few = let h = closes outer c n in (closers outer, h.0, h.1)
 goes_on_within (Wants fs u) n few = let h = ends_expr fs u (Var 0) n few in (at nowhere (signs.Name 0) ∷ h.tail, h.made, takes (Wants fs u) (Has fs u (Var 0)) nowhere (signs.Name 0) n n h.tail refl refl refl few ∙ h.reads)
@@ -211,9 +221,9 @@ goes_on_within (Has fs u e) n few = let h = ends_expr fs u e n few in (h.tail, h
 goes_on_within (Counting p u site) n few = let h = closes_pending (OfStatement site (changed_by_one p 0 u)) 0 in (at nowhere (signs.Name 0) ∷ h.0, h.1, h.2)
 goes_on_within (Named p x site) n few = let h = closes_pending (OfStatement site (changed_by_one p x Raise)) 0 in (at nowhere signs.PlusPlus ∷ h.0, h.1, h.2)
 goes_on_within (Opens u) n few = let h = ends_use u (Var 0) 0 (omega arith) in (at nowhere signs.Open ∷ at nowhere (signs.Name 0) ∷ h.tail, h.made, h.reads)
-goes_on_within (ForOpens outer) n few = let h = after_change (AsStart outer) Done 0 in (at nowhere signs.Open ∷ at nowhere signs.Semicolon ∷ h.0, h.1, h.2)
-goes_on_within (StartComes outer) n few = let h = after_change (AsStart outer) Done 0 in (at nowhere signs.Semicolon ∷ h.0, h.1, h.2)
-goes_on_within (TestComes start outer) n few = after_change (AsStart outer) start n
+goes_on_within (ForOpens p outer) n few = let h = after_change (AsStart outer) Done 0 in (at nowhere signs.Open ∷ at nowhere signs.Semicolon ∷ h.0, h.1, h.2)
+goes_on_within (StartComes p outer) n few = let h = after_change (AsStart outer) Done 0 in (at nowhere signs.Semicolon ∷ h.0, h.1, h.2)
+goes_on_within (TestComes start outer) n few = closes_test start outer n
 goes_on_within (StepComes start p e outer) n few = let h = after_change (AsStep start p e outer) Done 0 in (at nowhere signs.Close ∷ h.0, h.1, h.2)
 goes_on_within (RedoOpens p c outer) n few = let h = closes outer (Do p c nowhere (Var 0) Done) 0 in (at nowhere signs.Open ∷ at nowhere (signs.Name 0) ∷ at nowhere signs.Close ∷ at nowhere signs.Semicolon ∷ closers outer, h.0, h.1)
 goes_on_within (RedoComes p c outer) n few = let h = closes outer (Do p c nowhere (Var 0) Done) 0 in (at nowhere (signs.Name 0) ∷ at nowhere signs.Close ∷ at nowhere signs.Semicolon ∷ closers outer, h.0, h.1)

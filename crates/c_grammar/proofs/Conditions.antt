@@ -11,7 +11,7 @@ use Rattle.c_grammar.specs.Statics.{statics_by}
 use Rattle.c_grammar.proofs.HeldStatics.{statics_guarded}
 use Rattle.c_grammar.specs.declared.items.Item.{Item}
 use Rattle.c_grammar.specs.declared.items.Sign.TheVariants as signs
-use Rattle.c_grammar.specs.Grammar.{at, Changes, assignment, input_taken, compound_assignment, count_behind, count_before, Clause, no_clause, clause, Qualifier, LocalDeclarator, uninitialised, initialised, from_call, Shape, Writes, none, more, choice, local, static_local, last_local, next_local, ends, otherwise, elif, change, call, void_call, assert, skip, block, while, for, if_then, if_else, do_while, break, continue, return, declared, Part, Outer, Vars, Later, Declares, nothing, variables, prototype, void_prototype, definition, section, last_var, next_var, end_part, else_part, elif_part, Body, body, Main, main, File, Forms, file, has_groups, held_of, whole_of}
+use Rattle.c_grammar.specs.Grammar.{at, Changes, assignment, input_taken, compound_assignment, count_behind, count_before, Clause, no_clause, clause, Qualifier, LocalDeclarator, uninitialised, initialised, from_call, Shape, Writes, none, more, choice, local, static_local, last_local, next_local, ends, otherwise, elif, change, call, void_call, assert, skip, block, while, for, declaring_for, if_then, if_else, do_while, break, continue, return, declared, Part, Outer, Vars, Later, Declares, nothing, variables, prototype, void_prototype, definition, section, last_var, next_var, end_part, else_part, elif_part, Body, body, Main, main, File, Forms, file, has_groups, held_of, whole_of}
 use Rattle.c_grammar.specs.Facts.{AreConditionsOf, Conditioned}
 
 cut : (n : ℕ) (xs ys : List Item) → AreConditionsOf n (xs ++ ys) → AreConditionsOf n xs × AreConditionsOf n ys
@@ -69,6 +69,10 @@ code_numbered n (for p q r z {b} {ts} {us} {vs} {ws} {start} {step = advance} {c
     let k = cut n us (vs ++ at z signs.Close ∷ ws) (cut n ts (at r signs.Semicolon ∷ (us ++ (vs ++ at z signs.Close ∷ ws))) h.1.1).1.1 in
     let l = cut n vs (at z signs.Close ∷ ws) k.1 in
     followed_numbered n start (While t e advance c Done) (clause_numbered n first) (clause_numbered n last, code_numbered n s l.1.1, tt)
+code_numbered n (declaring_for p q z {b} {ts} {ds} {us} {vs} {ws} {start} {step = advance} {c} {t} {e} g l middle last s) h =
+    let j = cut n ds (us ++ (vs ++ at z signs.Close ∷ ws)) (cut n ts (ds ++ (us ++ (vs ++ at z signs.Close ∷ ws))) h.1.1).1 in
+    let k = cut n vs (at z signs.Close ∷ ws) (cut n us (vs ++ at z signs.Close ∷ ws) j.1).1 in
+    (followed_numbered n start (While t e advance c Done) (code_numbered n l j.0) (clause_numbered n last, code_numbered n s k.1.1, tt), tt)
 code_numbered n (if_then p q r {b} {ts} {us} e s) h = (code_numbered n s (cut n ts (at r signs.Close ∷ us) h.1.1).1.1, tt, tt)
 code_numbered n (if_else p q r z {b} {ts} {us} {vs} e s t) h =
     let k = cut n us (at z signs.Else ∷ vs) (cut n ts (at r signs.Close ∷ (us ++ at z signs.Else ∷ vs)) h.1.1).1.1 in

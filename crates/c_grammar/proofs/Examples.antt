@@ -363,10 +363,10 @@ else_behind_a_loop : run start (items (head ++ signs.If ∷ signs.Open ∷ signs
 unfolding run
 else_behind_a_loop = refl
 
--- for ( int, for ( x = 1 , for ( x = 1 ), for ( ; x ), for ( ; ; x = 1 ;, for ( ; ; f, for ( #if 0, for ( ; #if 0 and for ( ; ; ) #if 0 in main: the last item is wrong
-declaration_in_a_loop : run start (items (head ++ signs.For ∷ signs.Open ∷ signs.Int ∷ [])) ≡ Err 1
+-- for ( static, for ( x = 1 , for ( x = 1 ), for ( ; x ), for ( ; ; x = 1 ;, for ( ; ; f, for ( #if 0, for ( ; #if 0 and for ( ; ; ) #if 0 in main: the last item is wrong
+static_in_a_loop : run start (items (head ++ signs.For ∷ signs.Open ∷ signs.Static ∷ [])) ≡ Err 1
 unfolding run
-declaration_in_a_loop = refl
+static_in_a_loop = refl
 
 comma_in_a_loop : run start (items (head ++ signs.For ∷ signs.Open ∷ signs.Name 0 ∷ signs.Equals ∷ signs.Number (pos 1) ∷ signs.Comma ∷ [])) ≡ Err 1
 unfolding run

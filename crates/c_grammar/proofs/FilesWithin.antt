@@ -16,7 +16,8 @@ use Rattle.c_grammar.specs.Within.{DeclaresIn, nothing, variables, prototype, vo
 use Rattle.c_grammar.proofs.Files.{NameFirst, IsName, before_type, words_of, vars_first, IsStop, bare_step, counted_step, listed_name}
 use Rattle.c_grammar.proofs.Within.{declares_plain}
 use Rattle.c_grammar.proofs.CompleteWithin.{same_within}
-use Rattle.c_grammar.proofs.StatesWithin.{token, opens_in, accepted_in}
+use Rattle.c_grammar.proofs.TokensWithin.{token, opens_in}
+use Rattle.c_grammar.proofs.StatesWithin.{accepted_in}
 
 -- ---- declarations
 

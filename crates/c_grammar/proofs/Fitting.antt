@@ -16,7 +16,7 @@ use Rattle.c_grammar.proofs.HeldStatics.{zero_is_int, statics_fit}
 use Rattle.c_grammar.specs.declared.items.Item.{Item}
 use Rattle.c_grammar.specs.declared.items.Sign.{Sign}
 use Rattle.c_grammar.specs.declared.items.Sign.TheVariants as signs
-use Rattle.c_grammar.specs.Grammar.{at, Prefix, Positive, Negative, Inverse, applied, Expresses, number, name, group, prefix, loose, binary, Changes, assignment, input_taken, compound_assignment, count_behind, count_before, Clause, no_clause, clause, Tests, no_test, test, LocalDeclarator, uninitialised, initialised, from_call, Shape, Writes, none, more, choice, local, static_local, last_local, next_local, ends, otherwise, elif, change, call, void_call, assert, skip, block, while, for, if_then, if_else, do_while, break, continue, return, Qualifier, Unqualified, Constant, Counted, behind, unqualified, const_before, const_behind, Begins, only_type, then_type, enumeration, Declarator, bare, positive, negative, counted, Defines, defined, negative_defined, enclosed, negative_enclosed, declared, Part, Outer, Vars, Later, Declares, nothing, variables, prototype, void_prototype, definition, section, last_var, next_var, end_part, else_part, elif_part, Body, body, Main, main, File, Forms, file, has_groups, zeros, held_of}
+use Rattle.c_grammar.specs.Grammar.{at, Prefix, Positive, Negative, Inverse, applied, Expresses, number, name, group, prefix, loose, binary, Changes, assignment, input_taken, compound_assignment, count_behind, count_before, Clause, no_clause, clause, Tests, no_test, test, LocalDeclarator, uninitialised, initialised, from_call, Shape, Writes, none, more, choice, local, static_local, last_local, next_local, ends, otherwise, elif, change, call, void_call, assert, skip, block, while, for, declaring_for, if_then, if_else, do_while, break, continue, return, Qualifier, Unqualified, Constant, Counted, behind, unqualified, const_before, const_behind, Begins, only_type, then_type, enumeration, Declarator, bare, positive, negative, counted, Defines, defined, negative_defined, enclosed, negative_enclosed, declared, Part, Outer, Vars, Later, Declares, nothing, variables, prototype, void_prototype, definition, section, last_var, next_var, end_part, else_part, elif_part, Body, body, Main, main, File, Forms, file, has_groups, zeros, held_of}
 use Rattle.c_grammar.specs.Facts.{AreFit, WellFormed, PlainWithoutGroups}
 use Rattle.c_tree.proofs.Starts.{length-start, ints-start}
 use Rattle.c_grammar.proofs.Keeping.{no_groups}
@@ -112,6 +112,11 @@ code_fits n (for p q r z {b} {ts} {us} {vs} {ws} {start} {step = advance} {c} {t
     let l = fit_split n us (vs ++ at z signs.Close ∷ ws) k.1.1 in
     let m = fit_split n vs (at z signs.Close ∷ ws) l.1 in
     followed_fits n start (While t e advance c Done) (clause_fits n first k.0) (test_fits n middle l.0, clause_fits n last m.0, code_fits n s m.1.1, tt, clause_step last)
+code_fits n (declaring_for p q z {b} {ts} {ds} {us} {vs} {ws} {start} {step = advance} {c} {t} {e} g l middle last s) h =
+    let j = fit_split n ds (us ++ (vs ++ at z signs.Close ∷ ws)) (fit_split n ts (ds ++ (us ++ (vs ++ at z signs.Close ∷ ws))) h.1.1).1 in
+    let k = fit_split n us (vs ++ at z signs.Close ∷ ws) j.1 in
+    let m = fit_split n vs (at z signs.Close ∷ ws) k.1 in
+    (followed_fits n start (While t e advance c Done) (code_fits n l j.0) (test_fits n middle k.0, clause_fits n last m.0, code_fits n s m.1.1, tt, clause_step last), tt)
 code_fits n (if_then p q r {b} {ts} {us} e s) h = let k = fit_split n ts (at r signs.Close ∷ us) h.1.1 in (term_fits n e k.0, code_fits n s k.1.1, tt, tt)
 code_fits n (if_else p q r z {b} {ts} {us} {vs} e s t) h =
     let k = fit_split n ts (at r signs.Close ∷ (us ++ at z signs.Else ∷ vs)) h.1.1 in
@@ -246,6 +251,10 @@ code_plain (while p q r {b} {ts} {us} e s) h = (tt, code_plain s (no_groups ts (
 code_plain (for p q r z {b} {ts} {us} {vs} {ws} {start} {step = advance} {c} {t} {e} first middle last s) h =
     let k = no_groups us (vs ++ at z signs.Close ∷ ws) (no_groups ts (at r signs.Semicolon ∷ (us ++ (vs ++ at z signs.Close ∷ ws))) h).1 in
     followed_plain start (While t e advance c Done) (clause_plain first) (clause_plain last, code_plain s (no_groups vs (at z signs.Close ∷ ws) k.1).1, tt)
+code_plain (declaring_for p q z {b} {ts} {ds} {us} {vs} {ws} {start} {step = advance} {c} {t} {e} g l middle last s) h =
+    let j = no_groups ds (us ++ (vs ++ at z signs.Close ∷ ws)) (no_groups ts (ds ++ (us ++ (vs ++ at z signs.Close ∷ ws))) h).1 in
+    let k = no_groups us (vs ++ at z signs.Close ∷ ws) j.1 in
+    (followed_plain start (While t e advance c Done) (code_plain l j.0) (clause_plain last, code_plain s (no_groups vs (at z signs.Close ∷ ws) k.1).1, tt), tt)
 code_plain (if_then p q r {b} {ts} {us} e s) h = (code_plain s (no_groups ts (at r signs.Close ∷ us) h).1, tt, tt)
 code_plain (if_else p q r z {b} {ts} {us} {vs} e s t) h =
     let k = no_groups us (at z signs.Else ∷ vs) (no_groups ts (at r signs.Close ∷ (us ++ at z signs.Else ∷ vs)) h).1 in

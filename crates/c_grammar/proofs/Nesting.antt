@@ -8,7 +8,7 @@ use Rattle.c_tree.specs.Tree.{Term, Code}
 use Rattle.c_grammar.specs.declared.items.Item.{Item}
 use Rattle.c_grammar.specs.declared.items.Sign.{Sign}
 use Rattle.c_grammar.specs.declared.items.Sign.TheVariants as signs
-use Rattle.c_grammar.specs.Grammar.{at, Prefix, Positive, Negative, Inverse, prefix_sign, Expresses, number, name, group, prefix, loose, binary, Update, Sum, Difference, Product, Quotient, Remainder, update_sign, Count, Raise, Lower, count_sign, LocalDeclarator, uninitialised, initialised, from_call, Shape, Listed, Stated, Chained, Locals, Writes, none, more, choice, local, static_local, last_local, next_local, ends, otherwise, elif, change, Callable, of_input, of_function, Changes, assignment, input_taken, compound_assignment, count_behind, count_before, Clause, no_clause, clause, Tests, no_test, test, call, void_call, assert, skip, block, while, for, if_then, if_else, do_while, break, continue, return, Optional, absent, present, Typed, int, int32, signed, signed_int, int_signed, Qualifier, Unqualified, Constant, Counted, behind, Qualified, unqualified, const_before, const_behind, Begins, only_type, then_type, enumeration, Declarator, bare, positive, negative, counted, Ending, variables_end, constants_end, enumeration_end, comma_end, Defines, defined, negative_defined, enclosed, negative_enclosed, Part, Outer, Vars, Later, Declares, nothing, variables, prototype, void_prototype, definition, section, last_var, next_var, end_part, else_part, elif_part, Gap, Gaps, GapRest, Empty, no_more, empty_section, empty_end, empty_else, empty_elif, Body, body, Main, main, File, Forms, file}
+use Rattle.c_grammar.specs.Grammar.{at, Prefix, Positive, Negative, Inverse, prefix_sign, Expresses, number, name, group, prefix, loose, binary, Update, Sum, Difference, Product, Quotient, Remainder, update_sign, Count, Raise, Lower, count_sign, LocalDeclarator, uninitialised, initialised, from_call, Shape, Listed, Stated, Chained, Locals, Writes, none, more, choice, local, static_local, last_local, next_local, ends, otherwise, elif, change, Callable, of_input, of_function, Changes, assignment, input_taken, compound_assignment, count_behind, count_before, Clause, no_clause, clause, Tests, no_test, test, call, void_call, assert, skip, block, while, for, declaring_for, if_then, if_else, do_while, break, continue, return, Optional, absent, present, Typed, int, int32, signed, signed_int, int_signed, Qualifier, Unqualified, Constant, Counted, behind, Qualified, unqualified, const_before, const_behind, Begins, only_type, then_type, enumeration, Declarator, bare, positive, negative, counted, Ending, variables_end, constants_end, enumeration_end, comma_end, Defines, defined, negative_defined, enclosed, negative_enclosed, Part, Outer, Vars, Later, Declares, nothing, variables, prototype, void_prototype, definition, section, last_var, next_var, end_part, else_part, elif_part, Gap, Gaps, GapRest, Empty, no_more, empty_section, empty_end, empty_else, empty_elif, Body, body, Main, main, File, Forms, file}
 
 -- ---- what nests
 
@@ -250,6 +250,8 @@ code_nests (block p q s) = braces p q (code_nests s) no_item
 code_nests (while p q r e s) = flat _ refl (flat _ refl (closed e (flat _ refl (code_nests s))))
 code_nests (for p q r z {b} {ts} {us} {vs} {ws} a t d s) =
     flat _ refl (flat _ refl (flat_before ts (clause_flat a) (flat _ refl (flat_before us (tests_flat t) (flat_before vs (clause_flat d) (flat _ refl (code_nests s)))))))
+code_nests (declaring_for p q z {b} {ts} {ds} {us} {vs} {ws} g l t d s) =
+    flat _ refl (flat _ refl (flat_before ts (qualified_flat g) (flat_before ds (code_nests l) (flat_before us (tests_flat t) (flat_before vs (clause_flat d) (flat _ refl (code_nests s)))))))
 code_nests (if_then p q r e s) = flat _ refl (flat _ refl (closed e (flat _ refl (code_nests s))))
 code_nests (if_else p q r z e s t) = flat _ refl (flat _ refl (closed e (flat _ refl (nests_both (code_nests s) (flat _ refl (code_nests t))))))
 code_nests (do_while p q r s t l e) = flat _ refl (nests_both (code_nests l) (flat _ refl (flat _ refl (closed e (flat _ refl (flat _ refl no_item))))))

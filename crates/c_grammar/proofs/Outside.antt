@@ -1,5 +1,5 @@
 -- Where group directives stand in a file: in no declarator, and behind no word of a type, `const` or comma.
-use Rattle.std.proofs.Common.{◌≡◌, ℕ, ℤ, Bool, true, false, List, [], ◌∷◌, ◌++◌, Option, Some, None, refl, sym, subst, append_assoc}
+use Rattle.std.proofs.Common.{◌≡◌, ℕ, ℤ, Bool, true, false, List, [], ◌∷◌, ◌++◌, Option, Some, None, refl, sym, ap, subst, ◌∙◌, append_assoc}
 use Rattle.std.proofs.lemmas.List.{append-nil}
 use Rattle.fam_outer.specs.declared.faults.Place.{Place}
 use Rattle.c_tree.specs.declared.tree.Op.TheVariants.{Sub}
@@ -8,7 +8,7 @@ use Rattle.c_tree.specs.Tree.{Term, Code}
 use Rattle.c_grammar.specs.declared.items.Item.{Item}
 use Rattle.c_grammar.specs.declared.items.Sign.{Sign}
 use Rattle.c_grammar.specs.declared.items.Sign.TheVariants as signs
-use Rattle.c_grammar.specs.Grammar.{at, Prefix, Positive, Negative, Inverse, prefix_sign, Expresses, number, name, group, prefix, loose, binary, Update, Sum, Difference, Product, Quotient, Remainder, update_sign, Count, Raise, Lower, count_sign, LocalDeclarator, uninitialised, initialised, from_call, Shape, Listed, Stated, Chained, Locals, Writes, none, more, choice, local, static_local, last_local, next_local, ends, otherwise, elif, change, Callable, of_input, of_function, Changes, assignment, input_taken, compound_assignment, count_behind, count_before, Clause, no_clause, clause, Tests, no_test, test, call, void_call, assert, skip, block, while, for, if_then, if_else, do_while, break, continue, return, Optional, absent, present, Typed, int, int32, signed, signed_int, int_signed, Qualifier, Qualified, unqualified, const_before, const_behind, Begins, only_type, then_type, enumeration, Declarator, bare, positive, negative, counted, Ending, variables_end, constants_end, enumeration_end, comma_end, Defines, defined, negative_defined, enclosed, negative_enclosed, Part, Outer, Vars, Later, Declares, nothing, variables, prototype, void_prototype, definition, section, last_var, next_var, end_part, else_part, elif_part, Gap, Empty, no_more, empty_section, empty_end, empty_else, empty_elif, Body, body, Main, main, file}
+use Rattle.c_grammar.specs.Grammar.{at, Prefix, Positive, Negative, Inverse, prefix_sign, Expresses, number, name, group, prefix, loose, binary, Update, Sum, Difference, Product, Quotient, Remainder, update_sign, Count, Raise, Lower, count_sign, LocalDeclarator, uninitialised, initialised, from_call, Shape, Listed, Stated, Chained, Locals, Writes, none, more, choice, local, static_local, last_local, next_local, ends, otherwise, elif, change, Callable, of_input, of_function, Changes, assignment, input_taken, compound_assignment, count_behind, count_before, Clause, no_clause, clause, Tests, no_test, test, call, void_call, assert, skip, block, while, for, declaring_for, if_then, if_else, do_while, break, continue, return, Optional, absent, present, Typed, int, int32, signed, signed_int, int_signed, Qualifier, Qualified, unqualified, const_before, const_behind, Begins, only_type, then_type, enumeration, Declarator, bare, positive, negative, counted, Ending, variables_end, constants_end, enumeration_end, comma_end, Defines, defined, negative_defined, enclosed, negative_enclosed, Part, Outer, Vars, Later, Declares, nothing, variables, prototype, void_prototype, definition, section, last_var, next_var, end_part, else_part, elif_part, Gap, Empty, no_more, empty_section, empty_end, empty_else, empty_elif, Body, body, Main, main, file}
 use Rattle.c_grammar.specs.Locals.{AreOutside, DirectivesStandOutside}
 
 -- text in front of which directives may stand: where they stand outside declarators in what follows it, they do in the whole
@@ -207,6 +207,12 @@ code_outside (for p q r z {b} {ts} {us} {vs} {ws} a t d s) = λ w h.
     let step : Leaves (vs ++ at z signs.Close ∷ ws) = both vs (at z signs.Close ∷ ws) (clause_outside d) (λ v i. (tt, code_outside s v i)) in
     let tests : Leaves (us ++ (vs ++ at z signs.Close ∷ ws)) = both us (vs ++ at z signs.Close ∷ ws) (tests_outside t) step in
     (tt, (tt, both ts (at r signs.Semicolon ∷ (us ++ (vs ++ at z signs.Close ∷ ws))) (clause_outside a) (λ v i. (tt, tests v i)) w h))
+code_outside (declaring_for p q z {b} {ts} {ds} {us} {vs} {ws} g l t d s) = λ w h.
+    let step : Leaves (vs ++ at z signs.Close ∷ ws) = both vs (at z signs.Close ∷ ws) (clause_outside d) (λ v i. (tt, code_outside s v i)) in
+    let text : List Item = us ++ (vs ++ at z signs.Close ∷ ws) in
+    let tests : Leaves text = both us (vs ++ at z signs.Close ∷ ws) (tests_outside t) step in
+    let re : (ts ++ (ds ++ text)) ++ w ≡ ts ++ (ds ++ (text ++ w)) = append_assoc ts (ds ++ text) w ∙ ap (λ (y : List Item). ts ++ y) (append_assoc ds text w) in
+    (tt, (tt, subst (AreOutside false None) (sym re) (qualified_outside g (ds ++ (text ++ w)) (code_outside l (text ++ w) (tests w h)))))
 code_outside (if_then p q r {b} {ts} {us} e s) = λ w h. (tt, (tt, closed e (at r signs.Close ∷ us) w (tt, code_outside s w h)))
 code_outside (if_else p q r z {b} {ts} {us} {vs} e s t) = λ w h.
     (tt, (tt, closed e (at r signs.Close ∷ (us ++ at z signs.Else ∷ vs)) w (tt, both us (at z signs.Else ∷ vs) (code_outside s) (λ v i. (tt, code_outside t v i)) w h)))

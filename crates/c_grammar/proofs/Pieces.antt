@@ -3,14 +3,14 @@ use Rattle.std.proofs.Common.{◌≡◌, Bool, true, false, List, [], ◌∷◌,
 use Rattle.std.specs.Prelude.{IfSome}
 use Rattle.std.proofs.lemmas.List.{append-nil}
 use Rattle.fam_outer.specs.declared.faults.Place.{Place}
-use Rattle.c_tree.specs.Tree.{Term, Code, Done, If, While, Cond, followed}
+use Rattle.c_tree.specs.Tree.{Term, Code, Done, If, While, Block, Cond, followed}
 use Rattle.c_grammar.specs.declared.items.Sign.TheVariants as signs
 use Rattle.c_grammar.specs.declared.items.Item.{Item}
 use Rattle.c_grammar.specs.Ahead.{IsList}
-use Rattle.c_grammar.specs.Grammar.{at, Listed, Stated, Qualifier, Qualified, LocalDeclarator, Changes, clause, Writes, none, more, choice, local, static_local, last_local, next_local, change, while, for, if_then, if_else}
-use Rattle.c_grammar.specs.Machine.{Stack, Top, Braces, Yes, No, ThenOf, ElseOf, LoopOf, DoOf, Site, AsStatement, AsStart, AsStep, is_in_loop, folded, placed, ended_change, closed_change}
-use Rattle.c_grammar.proofs.Standing.{LoopHead, while_head, for_head, Read, AtSite, InDeclaration, PendsAt, Piece, StandsOn, Stands}
-use Rattle.c_grammar.proofs.Complete.{followed-none, followed-assoc, folded-none, folded-twice}
+use Rattle.c_grammar.specs.Grammar.{at, Listed, Stated, Locals, Qualifier, Constant, Qualified, LocalDeclarator, Changes, clause, Writes, none, more, choice, local, static_local, last_local, next_local, change, while, for, declaring_for, if_then, if_else}
+use Rattle.c_grammar.specs.Machine.{Stack, Top, Braces, Yes, No, ThenOf, ElseOf, LoopOf, DoOf, Start, Scope, ListScope, ForScope, Site, AsStatement, AsStart, AsStep, is_in_loop, folded, with_declarator, behind_declaration, initialising, started_by, placed, ended_change, closed_change}
+use Rattle.c_grammar.proofs.Standing.{change_head, declaration_head, LoopHead, while_head, for_head, Read, AtSite, BeforeDeclaration, InDeclaration, PendsAt, Piece, StandsOn, Stands}
+use Rattle.c_grammar.proofs.Folding.{followed-none, followed-assoc, folded-none, folded-twice}
 
 single : {d : Bool} {ts : List Item} {c : Code} {i : Bool} → Writes (Stated i d) ts c → Writes (Listed i) ts c
 single {d} {ts} {c} {i} s =
@@ -52,13 +52,16 @@ listed (LoopOf start p e advance outer) ts c is s = absurd is
 listed (DoOf p outer) ts c is s = absurd is
 
 -- a loop from what stands before its body
-pub loops : {d : Bool} {start : Code} {p : Place} {e : Term} {advance : Code} {ts us : List Item} {c : Code} {i : Bool} → LoopHead start p e advance ts → Writes (Stated true d) us c → Writes (Stated i d) (ts ++ us) (followed start (While p e advance c Done))
+pub loops : {d : Bool} {start : Start} {p : Place} {e : Term} {advance : Code} {ts us : List Item} {c : Code} {i : Bool} → LoopHead start p e advance ts → Writes (Stated true d) us c → Writes (Stated i d) (ts ++ us) (started_by start (While p e advance c Done))
 loops {d = d} {us = us} {c = c} {i = i} (while_head p q r {ts} {e} s) h =
     let is : at p signs.While ∷ at q signs.Open ∷ (ts ++ at r signs.Close ∷ us) ≡ (at p signs.While ∷ at q signs.Open ∷ (ts ++ at r signs.Close ∷ [])) ++ us = simp append_assoc in
     subst (λ (y : List Item). Writes (Stated i d) y (While p e Done c Done)) is (while p q r s h)
-loops {d = d} {us = us} {c = c} {i = i} (for_head p q r z {ts} {us = vs} {vs = ws} {start} {advance} {t} {e} a b s) h =
-    let is : at p signs.For ∷ at q signs.Open ∷ (ts ++ at r signs.Semicolon ∷ (vs ++ (ws ++ at z signs.Close ∷ us))) ≡ (at p signs.For ∷ at q signs.Open ∷ (ts ++ at r signs.Semicolon ∷ (vs ++ (ws ++ at z signs.Close ∷ [])))) ++ us = simp append_assoc in
+loops {d = d} {us = us} {c = c} {i = i} (for_head z {us = vs} {vs = ws} {advance = advance} {t} {e} (change_head p q r {ts} {c = start} a) b s) h =
+    let is : at p signs.For ∷ at q signs.Open ∷ (ts ++ at r signs.Semicolon ∷ (vs ++ (ws ++ at z signs.Close ∷ us))) ≡ ((at p signs.For ∷ at q signs.Open ∷ (ts ++ at r signs.Semicolon ∷ [])) ++ (vs ++ (ws ++ at z signs.Close ∷ []))) ++ us = simp append_assoc in
     subst (λ (y : List Item). Writes (Stated i d) y (followed start (While t e advance c Done))) is (for p q r z a b s h)
+loops {d = d} {us = us} {c = c} {i = i} (for_head z {us = vs} {vs = ws} {advance = advance} {t} {e} (declaration_head p q {ts} {us = ds} {c = start} g l) b s) h =
+    let is : at p signs.For ∷ at q signs.Open ∷ (ts ++ (ds ++ (vs ++ (ws ++ at z signs.Close ∷ us)))) ≡ ((at p signs.For ∷ at q signs.Open ∷ (ts ++ ds)) ++ (vs ++ (ws ++ at z signs.Close ∷ []))) ++ us = simp append_assoc in
+    subst (λ (y : List Item). Writes (Stated i d) y (Block p (followed start (While t e advance c Done)) Done)) is (declaring_for p q z g l b s h)
 
 -- a list is put behind what its list has
 pub fold_is : (outer : Stack) (c : Code) (b ts : List Item) → IsList outer → Read outer b → Writes (Listed (is_in_loop outer)) ts c → Read (folded outer c) (b ++ ts)
@@ -87,7 +90,7 @@ place_is d (ElseOf p e first outer) c b ts r s =
     subst (StandsOn (placed outer (If p e first c Done))) (sym is) (place_is d outer (If p e first c Done) r.3 text r.6 (piece d outer text (If p e first c Done) (if_else p r.0 r.1 r.2 r.7 r.8 s)))
 place_is d (LoopOf start p e advance outer) c b ts r s =
     let text : List Item = r.1 ++ ts in
-    let made : Code = followed start (While p e advance c Done) in
+    let made : Code = started_by start (While p e advance c Done) in
     let is : b ++ ts ≡ r.0 ++ text = ap (λ (y : List Item). y ++ ts) r.4 ∙ append_assoc r.0 r.1 ts in
     subst (StandsOn (placed outer made)) (sym is) (place_is d outer made r.0 text r.2 (piece d outer text made (loops r.3 s)))
 place_is d (DoOf p outer) c b ts r s = (r.0, ts, d, r.1, s, ap (λ (y : List Item). y ++ ts) r.2 ∙ append_assoc r.0 (at p signs.Do ∷ []) ts)
@@ -114,8 +117,13 @@ change_ends (AsStatement outer) c p a r = (
   ap (λ (y : List Item). y ++ at p signs.Semicolon ∷ []) r.4 ∙ append_assoc r.0 r.1 (at p signs.Semicolon ∷ []),
 )
 change_ends (AsStart outer) c p a r =
-    let h = r.2 in
-    (h.0, h.1, p, h.2, r.1, h.3, clause r.3, ap (λ (y : List Item). y ++ at p signs.Semicolon ∷ []) (r.4 ∙ ap (λ (y : List Item). y ++ r.1) h.4) ∙ simp append_assoc)
+    let h = r.2 in (
+      h.1.1,
+      at h.0 signs.For ∷ at h.1.0 signs.Open ∷ (r.1 ++ at p signs.Semicolon ∷ []),
+      h.1.2,
+      change_head h.0 h.1.0 p (clause r.3),
+      ap (λ (y : List Item). y ++ at p signs.Semicolon ∷ []) (r.4 ∙ ap (λ (y : List Item). y ++ r.1) h.1.3) ∙ simp append_assoc,
+    )
 change_ends (AsStep start q e outer) c p a r = tt
 
 -- the closing parenthesis of a `for` ends it
@@ -123,32 +131,43 @@ pub change_closes : (site : Site) (c : Code) (p : Place) (a : List Item) → AtE
 change_closes (AsStatement outer) c p a r = tt
 change_closes (AsStart outer) c p a r = tt
 change_closes (AsStep start q e outer) c p a r = let h = r.2 in (
+  h.0,
+  h.1 ++ (h.2 ++ (r.1 ++ at p signs.Close ∷ [])),
   h.3,
-  at h.0 signs.For ∷ at h.1 signs.Open ∷ (h.4 ++ at h.2 signs.Semicolon ∷ (h.5 ++ (r.1 ++ at p signs.Close ∷ []))),
-  h.6,
-  for_head h.0 h.1 h.2 p h.7 h.8 (clause r.3),
-  ap (λ (y : List Item). y ++ at p signs.Close ∷ []) (r.4 ∙ ap (λ (y : List Item). y ++ r.1) h.9) ∙ simp append_assoc,
+  for_head p h.4 h.5 (clause r.3),
+  ap (λ (y : List Item). y ++ at p signs.Close ∷ []) (r.4 ∙ ap (λ (y : List Item). y ++ r.1) h.6) ∙ simp append_assoc,
 )
 
 -- ---- declarations in `main`
 
 -- behind its type
-pub declaration_begins : {kind : Qualifier} (outer : Stack) (b us : List Item) → Read outer b → IsList outer → Qualified kind us → InDeclaration kind outer (b ++ us)
-declaration_begins {kind} outer b us r is q = record {
+pub declaration_begins : {kind : Qualifier} (scope : Scope) (b us : List Item) → BeforeDeclaration scope b → Qualified kind us → InDeclaration kind scope (b ++ us)
+declaration_begins {kind} (ListScope outer) b us r q = record {
   before = outer;
   start = b;
   made = Done;
   text = us;
-  is_read = r;
-  is_list = is;
-  folds = sym (folded-none outer is);
+  is_read = r.0;
+  is_list = r.1;
+  folds = sym (folded-none outer r.1);
   goes_on = λ ts c s. subst (λ (y : List Item). Writes (Listed (is_in_loop outer)) (us ++ y) c) (append-nil ts) (subst (Writes (Listed (is_in_loop outer)) (us ++ (ts ++ []))) (followed-none c) (local q s none));
   parts = refl;
 }
+declaration_begins {kind} (ForScope p made outer) b us r q = record {
+  paren = r.0.0;
+  kind = kind;
+  start = r.0.1;
+  words = us;
+  text = [];
+  is_read = r.0.2;
+  is_qualified = q;
+  goes_on = λ ts c s. subst (λ (y : Code). Writes (Locals Constant) ts (followed y c)) (sym r.1) s;
+  parts = ap (λ (y : List Item). y ++ us) r.0.3 ∙ append_assoc r.0.1 (at p signs.For ∷ at r.0.0 signs.Open ∷ []) us ∙ ap (λ (y : List Item). r.0.1 ++ (at p signs.For ∷ at r.0.0 signs.Open ∷ y)) (sym (append-nil us));
+}
 
 -- behind a comma
-pub declaration_goes_on : {kind : Qualifier} {outer : Stack} {b ts : List Item} {c : Code} (p : Place) → InDeclaration kind outer b → LocalDeclarator kind ts c → InDeclaration kind (folded outer c) (b ++ (ts ++ at p signs.Comma ∷ []))
-declaration_goes_on {kind} {outer} {b} {ts} {c} p d h = let is : (us : List Item) → d.text ++ (ts ++ at p signs.Comma ∷ us) ≡ (d.text ++ (ts ++ at p signs.Comma ∷ [])) ++ us = λ us. simp append_assoc in record {
+pub declaration_goes_on : (kind : Qualifier) (scope : Scope) (b ts : List Item) {c : Code} (p : Place) → InDeclaration kind scope b → LocalDeclarator (initialising scope kind) ts c → InDeclaration kind (with_declarator scope c) (b ++ (ts ++ at p signs.Comma ∷ []))
+declaration_goes_on kind (ListScope outer) b ts {c} p d h = let is : (us : List Item) → d.text ++ (ts ++ at p signs.Comma ∷ us) ≡ (d.text ++ (ts ++ at p signs.Comma ∷ [])) ++ us = λ us. simp append_assoc in record {
   before = d.before;
   start = d.start;
   made = followed d.made c;
@@ -159,10 +178,21 @@ declaration_goes_on {kind} {outer} {b} {ts} {c} p d h = let is : (us : List Item
   goes_on = λ us e s. subst (λ (y : List Item). Writes (Listed (is_in_loop d.before)) y (followed (followed d.made c) e)) (is us) (subst (Writes (Listed (is_in_loop d.before)) (d.text ++ (ts ++ at p signs.Comma ∷ us))) (sym (followed-assoc d.made c e)) (d.goes_on (ts ++ at p signs.Comma ∷ us) (followed c e) (next_local p h s)));
   parts = ap (λ (y : List Item). y ++ (ts ++ at p signs.Comma ∷ [])) d.parts ∙ append_assoc d.start d.text (ts ++ at p signs.Comma ∷ []);
 }
+declaration_goes_on kind (ForScope q made outer) b ts {c} p d h = let is : (us : List Item) → d.text ++ (ts ++ at p signs.Comma ∷ us) ≡ (d.text ++ (ts ++ at p signs.Comma ∷ [])) ++ us = λ us. simp append_assoc in record {
+  paren = d.paren;
+  kind = d.kind;
+  start = d.start;
+  words = d.words;
+  text = d.text ++ (ts ++ at p signs.Comma ∷ []);
+  is_read = d.is_read;
+  is_qualified = d.is_qualified;
+  goes_on = λ us e s. subst (λ (y : List Item). Writes (Locals Constant) y (followed (followed made c) e)) (is us) (subst (Writes (Locals Constant) (d.text ++ (ts ++ at p signs.Comma ∷ us))) (sym (followed-assoc made c e)) (d.goes_on (ts ++ at p signs.Comma ∷ us) (followed c e) (next_local p h s)));
+  parts = ap (λ (y : List Item). y ++ (ts ++ at p signs.Comma ∷ [])) d.parts ∙ simp append_assoc;
+}
 
 -- behind its semicolon
-pub declaration_ends : {kind : Qualifier} {outer : Stack} {b ts : List Item} {c : Code} (p : Place) → InDeclaration kind outer b → LocalDeclarator kind ts c → Read (folded outer c) (b ++ (ts ++ at p signs.Semicolon ∷ []))
-declaration_ends {kind} {outer} {b} {ts} {c} p d h =
+pub declaration_ends : (kind : Qualifier) (scope : Scope) (b ts : List Item) {c : Code} (p : Place) → InDeclaration kind scope b → LocalDeclarator (initialising scope kind) ts c → Stands (behind_declaration (with_declarator scope c)) (b ++ (ts ++ at p signs.Semicolon ∷ []))
+declaration_ends kind (ListScope outer) b ts {c} p d h =
     let end : List Item = ts ++ at p signs.Semicolon ∷ [] in
     let text : List Item = d.text ++ end in
     let all : Code = followed d.made c in
@@ -170,3 +200,11 @@ declaration_ends {kind} {outer} {b} {ts} {c} p d h =
     let folds : folded outer c ≡ folded d.before all = ap (λ (y : Stack). folded y c) d.folds ∙ folded-twice d.before d.made c d.is_list in
     let is : b ++ end ≡ d.start ++ text = ap (λ (y : List Item). y ++ end) d.parts ∙ append_assoc d.start d.text end in
     subst (λ (y : Stack). Read y (b ++ end)) (sym folds) (subst (Read (folded d.before all)) (sym is) r)
+declaration_ends kind (ForScope q made outer) b ts {c} p d h =
+    let end : List Item = ts ++ at p signs.Semicolon ∷ [] in (
+      d.start,
+      at q signs.For ∷ at d.paren signs.Open ∷ (d.words ++ (d.text ++ end)),
+      d.is_read,
+      declaration_head q d.paren d.is_qualified (d.goes_on end c (last_local p h)),
+      ap (λ (y : List Item). y ++ end) d.parts ∙ simp append_assoc,
+    )

@@ -2,13 +2,13 @@
 use Rattle.std.proofs.Common.{List, [], ◌∷◌, ◌++◌, sym, subst}
 use Rattle.std.proofs.lemmas.List.{append-nil}
 use Rattle.fam_outer.specs.declared.faults.Place.{Place}
-use Rattle.c_tree.specs.Tree.{Term, Code, Done, While}
+use Rattle.c_tree.specs.Tree.{Term, Code, Done, While, followed}
 use Rattle.c_tree.specs.Places.{places_of}
 use Rattle.c_tree.specs.Whole.{IsBeforeAll, IsRising}
 use Rattle.c_tree.proofs.Listed.{places_of-followed}
 use Rattle.c_grammar.specs.declared.items.Item.{Item}
 use Rattle.c_grammar.specs.declared.items.Sign.TheVariants as signs
-use Rattle.c_grammar.specs.Grammar.{at, update_sign, count_sign, Changes, assignment, input_taken, compound_assignment, count_behind, count_before, Clause, no_clause, clause, Tests, no_test, test, Qualifier, LocalDeclarator, uninitialised, initialised, from_call, Shape, Writes, none, more, choice, local, static_local, last_local, next_local, ends, otherwise, elif, change, call, void_call, assert, skip, block, while, for, if_then, if_else, do_while, break, continue, return, Body, body, Main, main, File, Forms, file}
+use Rattle.c_grammar.specs.Grammar.{at, update_sign, count_sign, Changes, assignment, input_taken, compound_assignment, count_behind, count_before, Clause, no_clause, clause, Tests, no_test, test, Qualifier, LocalDeclarator, uninitialised, initialised, from_call, Shape, Writes, none, more, choice, local, static_local, last_local, next_local, ends, otherwise, elif, change, call, void_call, assert, skip, block, while, for, declaring_for, if_then, if_else, do_while, break, continue, return, Body, body, Main, main, File, Forms, file}
 use Rattle.c_grammar.specs.Facts.{IsBeforeItems, AreRising}
 
 -- the places are those of some of the items
@@ -89,6 +89,11 @@ code_part (for p q r z {b} {ts} {us} {vs} {ws} {start} {step = advance} {c} {t} 
     let behind : IsPart (places_of advance ++ (places_of c ++ [])) (vs ++ at z signs.Close ∷ ws) = joined (clause_part last) (pass (at z signs.Close) (padded (code_part s))) in
     let text : List Item = at p signs.For ∷ at q signs.Open ∷ (ts ++ at r signs.Semicolon ∷ (us ++ (vs ++ at z signs.Close ∷ ws))) in
     subst (λ (y : List Place). IsPart y text) (sym (places_of-followed start (While t e advance c Done))) (pass (at p signs.For) (pass (at q signs.Open) (joined (clause_part first) (pass (at r signs.Semicolon) (joined (test_part middle) behind)))))
+code_part (declaring_for p q z {b} {ts} {ds} {us} {vs} {ws} {start} {step = advance} {c} {t} {e} g l middle last s) =
+    let behind : IsPart (places_of advance ++ (places_of c ++ [])) (vs ++ at z signs.Close ∷ ws) = joined (clause_part last) (pass (at z signs.Close) (padded (code_part s))) in
+    let loop : IsPart (places_of (followed start (While t e advance c Done))) (ds ++ (us ++ (vs ++ at z signs.Close ∷ ws))) =
+    subst (λ (y : List Place). IsPart y (ds ++ (us ++ (vs ++ at z signs.Close ∷ ws)))) (sym (places_of-followed start (While t e advance c Done))) (joined (code_part l) (joined (test_part middle) behind)) in
+    keep (at p signs.For) (padded (pass (at q signs.Open) (pass_all ts loop)))
 code_part (if_then p q r {b} {ts} {us} e s) = keep (at p signs.If) (pass (at q signs.Open) (pass_all ts (pass (at r signs.Close) (padded (code_part s)))))
 code_part (if_else p q r z {b} {ts} {us} {vs} e s t) = keep (at p signs.If) (pass (at q signs.Open) (pass_all ts (pass (at r signs.Close) (joined (code_part s) (pass (at z signs.Else) (padded (code_part t)))))))
 code_part (do_while p q r s t {b} {ts} {us} {x} l e) = keep (at p signs.Do) (joined (code_part l) (pass (at q signs.While) (pass (at r signs.Open) (keep x (no_part (us ++ at s signs.Close ∷ at t signs.Semicolon ∷ []))))))

@@ -10,9 +10,9 @@ use Rattle.c_grammar.specs.declared.items.Sign.TheVariants as signs
 use Rattle.c_grammar.specs.declared.items.Item.{Item}
 use Rattle.c_grammar.specs.Grammar.{at, Qualifier, tighter, prefix_sign, applied, Expresses, number, name, group, prefix, loose, binary, Update, update_sign, updated, Callable, of_input, of_function, assignment, input_taken, compound_assignment, Tests, test, LocalDeclarator, from_call, Stated, Writes, assert, do_while, return}
 use Rattle.c_grammar.specs.Grammar as grammar
-use Rattle.c_grammar.specs.Machine.{Frame, Paren, Pre, Left, room, Stack, Site, Use, ToAssign, ToInitialise, ToUpdate, ToAssert, ToChoose, ToLoop, ToRepeat, ToRedo, ToReturn, Has, is_in_loop, folded, settle, input_of, want, tested, closed_by, assigned, ended_by, initialised, followed_by, have}
-use Rattle.c_grammar.proofs.Standing.{while_head, InDeclaration, Read, StartsAt, Starts, Leads, Framed, Stands}
-use Rattle.c_grammar.proofs.Complete.{tighter_small}
+use Rattle.c_grammar.specs.Machine.{Frame, Paren, Pre, Left, room, Scope, Site, Use, ToAssign, ToInitialise, ToUpdate, ToAssert, ToChoose, ToLoop, ToRepeat, ToRedo, ToReturn, Has, is_in_loop, with_declarator, behind_declaration, initialising, settle, input_of, want, tested, closed_by, assigned, ended_by, initialised, followed_by, have}
+use Rattle.c_grammar.proofs.Standing.{while_head, InDeclaration, StartsAt, Starts, Leads, Framed, Stands}
+use Rattle.c_grammar.proofs.CompleteExpressions.{tighter_small}
 use Rattle.c_grammar.proofs.Pieces.{piece, AtEnd, change_pends, change_ends, change_closes, declaration_goes_on, declaration_ends}
 
 loosen : (j k : ℕ) {ts : List Item} {e : Term} → j ≤ k → Expresses j ts e → Expresses k ts e
@@ -25,7 +25,7 @@ loosen j (suc k) {ts} {e} le s = elim (cases_lt j (suc k)) [
 -- what stands first stands so before more
 starts_more : (u : Use) (ts us : List Item) → Starts u ts → Starts u (ts ++ us)
 starts_more (ToAssign p x site) ts us h = tt
-starts_more (ToInitialise kind p x outer) ts us h = tt
+starts_more (ToInitialise kind p x scope) ts us h = tt
 starts_more (ToUpdate p x u site) ts us h = tt
 starts_more (ToAssert p outer) ts us h = tt
 starts_more (ToChoose p outer) ts us h = tt
@@ -70,7 +70,7 @@ of_state fs u e a k small h = subst (λ (y : List Item). Settled u k (settle k f
 input_keeps : {f : Sign} (fs : List Frame) (u : Use) (p : Place) (a : List Item) → Callable f → Framed u fs a → IfSome (input_of fs u) (λ next. Stands next (a ++ at p f ∷ []))
 input_keeps {f} [] (ToAssign q x site) p a g r =
     (r.1, at q (signs.Name x) ∷ at r.0 signs.Equals ∷ at p f ∷ [], r.2, (λ s t. change_pends site (input_taken q r.0 p s t x g)), ap (λ (y : List Item). y ++ at p f ∷ []) r.3 ∙ append_assoc r.1 (at q (signs.Name x) ∷ at r.0 signs.Equals ∷ []) (at p f ∷ []))
-input_keeps {f} [] (ToInitialise kind q x outer) p a g r =
+input_keeps {f} [] (ToInitialise kind q x scope) p a g r =
     (r.1, at q (signs.Name x) ∷ at r.0 signs.Equals ∷ at p f ∷ [], r.2, (λ s t. from_call q r.0 p s t x g), ap (λ (y : List Item). y ++ at p f ∷ []) r.3 ∙ append_assoc r.1 (at q (signs.Name x) ∷ at r.0 signs.Equals ∷ []) (at p f ∷ []))
 input_keeps _ _ p a g r = tt
 
@@ -111,7 +111,7 @@ redo_of {i = i} {ts = ts} {c = c} p q r s t z (x ∷ us) e w g h =
 
 tested_keeps : (u : Use) (e : Term) (p : Place) (a : List Item) → Settled u 6 ([], e) a → IfSome (tested u e) (λ next. Stands next (a ++ at p signs.Close ∷ []))
 tested_keeps (ToAssign q x site) e p a d = change_closes site (Assign q x e Done) p a (assigns q x site e a d)
-tested_keeps (ToInitialise kind q x outer) e p a d = tt
+tested_keeps (ToInitialise kind q x scope) e p a d = tt
 tested_keeps (ToUpdate q x v site) e p a d = change_closes site (updated q x v e) p a (updates q x v site e a d)
 tested_keeps (ToAssert q outer) e p a d =
     let r = d.is_read in
@@ -155,21 +155,21 @@ closed_keeps (Pre v ∷ fs) u e p a d = tt
 closed_keeps (Left op x ∷ fs) u e p a d = tt
 
 -- a declarator with its initialiser, and what ends it
-initialises : (kind : Qualifier) (q : Place) (x : ℕ) (outer : Stack) (e : Term) (p : Place) (s : Sign) (a : List Item) → Settled (ToInitialise kind q x outer) 6 ([], e) a → (b ts : List Item) × InDeclaration kind outer b × LocalDeclarator kind ts (Assign q x e Done) × (a ++ at p s ∷ [] ≡ b ++ (ts ++ at p s ∷ []))
-initialises kind q x outer e p s a d =
+initialises : (kind : Qualifier) (q : Place) (x : ℕ) (scope : Scope) (e : Term) (p : Place) (s : Sign) (a : List Item) → Settled (ToInitialise kind q x scope) 6 ([], e) a → (b ts : List Item) × InDeclaration kind scope b × LocalDeclarator (initialising scope kind) ts (Assign q x e Done) × (a ++ at p s ∷ [] ≡ b ++ (ts ++ at p s ∷ []))
+initialises kind q x scope e p s a d =
     let r = d.is_read in
     (r.1, at q (signs.Name x) ∷ at r.0 signs.Equals ∷ d.text, r.2, grammar.initialised q r.0 x d.spells, ap (λ (y : List Item). y ++ at p s ∷ []) (d.parts ∙ ap (λ (y : List Item). y ++ d.text) r.3) ∙ simp append_assoc)
 
 assigned_keeps : (u : Use) (e : Term) (p : Place) (a : List Item) → Settled u 6 ([], e) a → IfSome (assigned u e) (λ next. Stands next (a ++ at p signs.Semicolon ∷ []))
 assigned_keeps (ToAssign q x site) e p a d = change_ends site (Assign q x e Done) p a (assigns q x site e a d)
-assigned_keeps (ToInitialise kind q x outer) e p a d = let r = initialises kind q x outer e p signs.Semicolon a d in subst (Read (folded outer (Assign q x e Done))) (sym r.4) (declaration_ends p r.2 r.3)
+assigned_keeps (ToInitialise kind q x scope) e p a d = let r = initialises kind q x scope e p signs.Semicolon a d in subst (Stands (behind_declaration (with_declarator scope (Assign q x e Done)))) (sym r.4) (declaration_ends kind scope r.0 r.1 p r.2 r.3)
 assigned_keeps (ToUpdate q x v site) e p a d = change_ends site (updated q x v e) p a (updates q x v site e a d)
 assigned_keeps (ToAssert q outer) e p a d = tt
 assigned_keeps (ToChoose q outer) e p a d = tt
 assigned_keeps (ToLoop q outer) e p a d = tt
 assigned_keeps (ToRepeat start q outer) e p a d =
     let r = d.is_read in
-    (r.0, r.1, r.2, r.3, r.4, d.text ++ at p signs.Semicolon ∷ [], r.5, r.6, test_of q p d.text e d.spells d.leads, ap (λ (y : List Item). y ++ at p signs.Semicolon ∷ []) (d.parts ∙ ap (λ (y : List Item). y ++ d.text) r.7) ∙ simp append_assoc)
+    (r.0, r.1, d.text ++ at p signs.Semicolon ∷ [], r.2, r.3, test_of q p d.text e d.spells d.leads, ap (λ (y : List Item). y ++ at p signs.Semicolon ∷ []) (d.parts ∙ ap (λ (y : List Item). y ++ d.text) r.4) ∙ simp append_assoc)
 assigned_keeps (ToRedo q c z outer) e p a d = tt
 assigned_keeps (ToReturn q outer) e p a d =
     let r = d.is_read in
@@ -186,7 +186,7 @@ ended_keeps [] u e p a d = assigned_keeps u e p a d
 ended_keeps (f ∷ fs) u e p a d = tt
 
 initialised_keeps : (u : Use) (e : Term) (p : Place) (a : List Item) → Settled u 6 ([], e) a → IfSome (initialised u e) (λ next. Stands next (a ++ at p signs.Comma ∷ []))
-initialised_keeps (ToInitialise kind q x outer) e p a d = let r = initialises kind q x outer e p signs.Comma a d in subst (InDeclaration kind (folded outer (Assign q x e Done))) (sym r.4) (declaration_goes_on p r.2 r.3)
+initialised_keeps (ToInitialise kind q x scope) e p a d = let r = initialises kind q x scope e p signs.Comma a d in subst (InDeclaration kind (with_declarator scope (Assign q x e Done))) (sym r.4) (declaration_goes_on kind scope r.0 r.1 p r.2 r.3)
 initialised_keeps (ToAssign q x outer) e p a d = tt
 initialised_keeps (ToUpdate q x v outer) e p a d = tt
 initialised_keeps (ToAssert q outer) e p a d = tt

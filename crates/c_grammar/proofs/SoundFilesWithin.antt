@@ -13,7 +13,8 @@ use Rattle.c_grammar.specs.Machine.{Tailing, Another, Final, Top, Sections, Oute
 use Rattle.c_grammar.specs.Deep.{tail_depth, guarded}
 use Rattle.c_grammar.specs.Within.{DeclaresIn, nothing, variables, prototype, void_prototype, definition, section, last_var, next_var, end_part, else_part, elif_part, EmptyIn, no_more, empty_section, empty_end, empty_else, empty_elif, BodyWithin, body, MainWithin, main, FormsWithin, file}
 use Rattle.c_grammar.proofs.Files.{vars_first}
-use Rattle.c_grammar.proofs.StatesWithin.{token, opens_in, accepted_in}
+use Rattle.c_grammar.proofs.TokensWithin.{token, opens_in}
+use Rattle.c_grammar.proofs.StatesWithin.{accepted_in}
 use Rattle.c_grammar.proofs.FilesWithin.{begins_then, prototyped, void_prototyped, ends_prototype, definition_then, guards_true, guards_false, goes_in, passes_in, ends_main, enters_main}
 use Rattle.c_grammar.proofs.SoundWithin.{opens_few, room_for, writes_back}
 

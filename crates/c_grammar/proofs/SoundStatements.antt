@@ -3,14 +3,14 @@ use Rattle.std.proofs.Common.{◌≡◌, ℕ, Bool, true, false, List, [], ◌�
 use Rattle.std.specs.Prelude.{IfSome}
 use Rattle.std.proofs.lemmas.List.{append-nil}
 use Rattle.fam_outer.specs.declared.faults.Place.{Place}
-use Rattle.c_tree.specs.Tree.{Term, Break, Continue, Code, Done, Input, If, While, Leave, Block, Skip, Cond, followed}
+use Rattle.c_tree.specs.Tree.{Term, Break, Continue, Code, Done, Input, If, While, Leave, Block, Skip, Cond}
 use Rattle.c_grammar.specs.declared.items.Sign.{Sign}
 use Rattle.c_grammar.specs.declared.items.Sign.TheVariants as signs
 use Rattle.c_grammar.specs.declared.items.Item.{Item}
 use Rattle.c_grammar.specs.Ahead.{IsList}
 use Rattle.c_grammar.specs.Grammar.{at, Count, Raise, Lower, count_sign, Callable, of_input, of_function, count_behind, count_before, no_clause, no_test, int32, signed_int, int_signed, Qualifier, Unqualified, Constant, Counted, Qualified, unqualified, const_before, const_behind, LocalDeclarator, uninitialised, Listed, Stated, Chained, Writes, none, choice, ends, otherwise, elif, call, void_call, skip, block, if_else, break, continue, body, file_of, Forms}
-use Rattle.c_grammar.specs.Machine.{Stack, Top, Braces, Yes, No, ThenOf, ElseOf, LoopOf, DoOf, Onward, InList, AtTest, Site, AsStatement, AsStart, AsStep, Use, ToAssign, ToInitialise, ToUpdate, ToAssert, ToChoose, ToLoop, ToRepeat, ToRedo, ToReturn, Pending, OfStatement, OfLocal, TypeWords, OneInt, OneSigned, WholeType, ReadingState, LocalConst, LocalType, LocalNamed, Ended, Wants, Counting, Named, ForOpens, StartComes, TestComes, StepComes, RedoOpens, RedoComes, VoidComes, VoidCloses, CallComes, CallOpens, CallCloses, Finishing, is_in_loop, folded, placed, else_of, linked, opened, braced, leaving, next_part, last_part, group_end, in_list, begin, proceed, on, named, counting, changing, start_comes, test_comes, step_comes, redo_comes, local_end, const_word, next_local, behind_local_type, local_type, without_initialiser, local_named, at_open, at_close, finishing, at_void, at_function, InStatic, BehindStatic}
-use Rattle.c_grammar.proofs.Standing.{Begun, for_head, Read, AtSite, InDeclaration, UsedAt, Pends, Piece, StandsOn, one_int, one_signed, whole_type, LocalWords, variable_words, constant_words, Stands}
+use Rattle.c_grammar.specs.Machine.{Stack, Top, Braces, Yes, No, ThenOf, ElseOf, LoopOf, DoOf, Start, Onward, InList, AtTest, Scope, ListScope, ForScope, Site, AsStatement, AsStart, AsStep, Use, ToAssign, ToInitialise, ToUpdate, ToAssert, ToChoose, ToLoop, ToRepeat, ToRedo, ToReturn, Pending, OfStatement, OfLocal, TypeWords, OneInt, OneSigned, WholeType, ReadingState, LocalConst, LocalType, LocalNamed, Ended, Wants, Counting, Named, ForOpens, StartComes, TestComes, StepComes, RedoOpens, RedoComes, VoidComes, VoidCloses, CallComes, CallOpens, CallCloses, Finishing, is_in_loop, with_declarator, behind_declaration, initialising, started_by, placed, else_of, linked, opened, braced, leaving, next_part, last_part, group_end, in_list, begin, proceed, on, named, counting, changing, start_comes, test_comes, step_comes, redo_comes, local_end, const_word, next_local, behind_local_type, local_type, without_initialiser, local_named, at_open, at_close, finishing, at_void, at_function, InStatic, BehindStatic}
+use Rattle.c_grammar.proofs.Standing.{Begun, change_head, for_head, Read, AtSite, InDeclaration, UsedAt, Pends, Piece, StandsOn, one_int, one_signed, whole_type, LocalWords, variable_words, constant_words, Stands}
 use Rattle.c_grammar.proofs.Pieces.{piece, listed, loops, place_is, change_pends, change_ends, change_closes, declaration_begins, declaration_goes_on, declaration_ends}
 use Rattle.c_grammar.proofs.SoundExpressions.{want_keeps}
 use Rattle.c_grammar.proofs.SoundFiles.{words_typed}
@@ -28,7 +28,7 @@ else_is (ElseOf p e first outer) c z b ts r s =
     subst (λ (y : List Item). IfSome (else_of outer (If p e first c Done)) (λ next. Stands next y)) (sym is) (else_is outer (If p e first c Done) z r.3 text r.6 (piece false outer text (If p e first c Done) (if_else p r.0 r.1 r.2 r.7 r.8 s)))
 else_is (LoopOf start p e advance outer) c z b ts r s =
     let text : List Item = r.1 ++ ts in
-    let made : Code = followed start (While p e advance c Done) in
+    let made : Code = started_by start (While p e advance c Done) in
     let is : b ++ (ts ++ at z signs.Else ∷ []) ≡ r.0 ++ (text ++ at z signs.Else ∷ []) = ap (λ (y : List Item). y ++ (ts ++ at z signs.Else ∷ [])) r.4 ∙ simp append_assoc in
     subst (λ (y : List Item). IfSome (else_of outer made) (λ next. Stands next y)) (sym is) (else_is outer made z r.0 text r.2 (piece false outer text made (loops r.3 s)))
 else_is (DoOf p outer) c z b ts r s = tt
@@ -115,10 +115,10 @@ in_list_keeps (DoOf q outer) next a h = tt
 pub begin_keeps : (outer : Stack) (p : Place) (s : Sign) (a : List Item) → Read outer a → IfSome (begin outer p s) (λ next. Stands next (a ++ at p s ∷ []))
 begin_keeps outer p (signs.Name x) a r = (a, r, refl)
 begin_keeps outer p signs.Static a r = in_list_keeps outer (InStatic BehindStatic outer) (a ++ at p signs.Static ∷ []) (λ is. (p, a, r, is, refl))
-begin_keeps outer p signs.Const a r = in_list_keeps outer (LocalConst outer) (a ++ at p signs.Const ∷ []) (λ is. (p, a, r, is, refl))
-begin_keeps outer p signs.Int a r = in_list_keeps outer (LocalType Unqualified OneInt outer) (a ++ at p signs.Int ∷ []) (λ is. (a, at p signs.Int ∷ [], r, is, variable_words (one_int p), refl))
-begin_keeps outer p signs.Int32 a r = in_list_keeps outer (LocalType Unqualified WholeType outer) (a ++ at p signs.Int32 ∷ []) (λ is. (a, at p signs.Int32 ∷ [], r, is, variable_words (whole_type (int32 p)), refl))
-begin_keeps outer p signs.Signed a r = in_list_keeps outer (LocalType Unqualified OneSigned outer) (a ++ at p signs.Signed ∷ []) (λ is. (a, at p signs.Signed ∷ [], r, is, variable_words (one_signed p), refl))
+begin_keeps outer p signs.Const a r = in_list_keeps outer (LocalConst (ListScope outer)) (a ++ at p signs.Const ∷ []) (λ is. (p, a, (r, is), refl))
+begin_keeps outer p signs.Int a r = in_list_keeps outer (LocalType Unqualified OneInt (ListScope outer)) (a ++ at p signs.Int ∷ []) (λ is. (a, at p signs.Int ∷ [], (r, is), variable_words (one_int p), refl))
+begin_keeps outer p signs.Int32 a r = in_list_keeps outer (LocalType Unqualified WholeType (ListScope outer)) (a ++ at p signs.Int32 ∷ []) (λ is. (a, at p signs.Int32 ∷ [], (r, is), variable_words (whole_type (int32 p)), refl))
+begin_keeps outer p signs.Signed a r = in_list_keeps outer (LocalType Unqualified OneSigned (ListScope outer)) (a ++ at p signs.Signed ∷ []) (λ is. (a, at p signs.Signed ∷ [], (r, is), variable_words (one_signed p), refl))
 begin_keeps outer p signs.Input a r = (a, at p signs.Input ∷ [], r, (λ s t u. call p s t u of_input), refl)
 begin_keeps outer p (signs.Function k) a r = (a, at p (signs.Function k) ∷ [], r, (λ s t u. call p s t u (of_function k)), refl)
 begin_keeps outer p signs.Open a r = (a, r, refl)
@@ -134,7 +134,7 @@ begin_keeps outer p signs.Continue a r = leaving_keeps (is_in_loop outer) outer 
 begin_keeps outer p signs.Return a r = ((a, r, refl), λ z t. tt)
 begin_keeps outer p signs.If a r = (a, r, refl)
 begin_keeps outer p signs.While a r = (a, r, refl)
-begin_keeps outer p signs.For a r = (p, a, r, refl)
+begin_keeps outer p signs.For a r = (a, r, refl)
 begin_keeps outer p (signs.GroupIf n) a r = opened_keeps n outer p a r
 begin_keeps outer p (signs.GroupElif n) a r = next_keeps n outer p a r
 begin_keeps outer p signs.GroupElse a r = last_keeps outer p a r
@@ -170,7 +170,7 @@ counting_keeps q u site p _ a r = tt
 
 opens_use : (u : Use) (p : Place) (a : List Item) → UsedAt u a → Stands (Wants [] u) (a ++ at p signs.Open ∷ [])
 opens_use (ToAssign q x site) p a r = absurd r
-opens_use (ToInitialise kind q x outer) p a r = absurd r
+opens_use (ToInitialise kind q x scope) p a r = absurd r
 opens_use (ToUpdate q x u site) p a r = absurd r
 opens_use (ToAssert q outer) p a r = ((p, r.0, r.1, ap (λ (y : List Item). y ++ at p signs.Open ∷ []) r.2 ∙ append_assoc r.0 (at q signs.Assert ∷ []) (at p signs.Open ∷ [])), λ z t. tt)
 opens_use (ToChoose q outer) p a r = ((p, r.0, r.1, ap (λ (y : List Item). y ++ at p signs.Open ∷ []) r.2 ∙ append_assoc r.0 (at q signs.If ∷ []) (at p signs.Open ∷ [])), λ z t. tt)
@@ -185,9 +185,9 @@ opens_keeps u p _ a r = tt
 
 -- ---- the parentheses of a `for`
 
-pub for_opens_keeps : (outer : Stack) (p : Place) (s : Sign) (a : List Item) → Stands (ForOpens outer) a → IfSome (at_open (StartComes outer) s) (λ next. Stands next (a ++ at p s ∷ []))
-for_opens_keeps outer p signs.Open a r = (r.0, p, r.1, r.2, ap (λ (y : List Item). y ++ at p signs.Open ∷ []) r.3 ∙ append_assoc r.1 (at r.0 signs.For ∷ []) (at p signs.Open ∷ []))
-for_opens_keeps outer p _ a r = tt
+pub for_opens_keeps : (o : Place) (outer : Stack) (p : Place) (s : Sign) (a : List Item) → Stands (ForOpens o outer) a → IfSome (at_open (StartComes o outer) s) (λ next. Stands next (a ++ at p s ∷ []))
+for_opens_keeps o outer p signs.Open a r = (p, r.0, r.1, ap (λ (y : List Item). y ++ at p signs.Open ∷ []) r.2 ∙ append_assoc r.0 (at o signs.For ∷ []) (at p signs.Open ∷ []))
+for_opens_keeps o outer p _ a r = tt
 
 changing_keeps : (site : Site) (p : Place) (s : Sign) (a : List Item) → AtSite site a → IfSome (changing site p s) (λ next. Stands next (a ++ at p s ∷ []))
 changing_keeps site p (signs.Name x) a r = (a, r, refl)
@@ -195,21 +195,31 @@ changing_keeps site p signs.PlusPlus a r = (a, r, refl)
 changing_keeps site p signs.MinusMinus a r = (a, r, refl)
 changing_keeps site p _ a r = tt
 
-pub start_comes_keeps : (outer : Stack) (p : Place) (s : Sign) (a : List Item) → Stands (StartComes outer) a → IfSome (start_comes outer p s) (λ next. Stands next (a ++ at p s ∷ []))
-start_comes_keeps outer p signs.Semicolon a r = (r.0, r.1, p, r.2, [], r.3, no_clause, ap (λ (y : List Item). y ++ at p signs.Semicolon ∷ []) r.4 ∙ append_assoc r.2 (at r.0 signs.For ∷ at r.1 signs.Open ∷ []) (at p signs.Semicolon ∷ []))
-start_comes_keeps outer p s a r = changing_keeps (AsStart outer) p s a r
+pub start_comes_keeps : (o : Place) (outer : Stack) (p : Place) (s : Sign) (a : List Item) → Stands (StartComes o outer) a → IfSome (start_comes o outer p s) (λ next. Stands next (a ++ at p s ∷ []))
+start_comes_keeps o outer p signs.Semicolon a r = (
+  r.1,
+  at o signs.For ∷ at r.0 signs.Open ∷ at p signs.Semicolon ∷ [],
+  r.2,
+  change_head o r.0 p no_clause,
+  ap (λ (y : List Item). y ++ at p signs.Semicolon ∷ []) r.3 ∙ append_assoc r.1 (at o signs.For ∷ at r.0 signs.Open ∷ []) (at p signs.Semicolon ∷ []),
+)
+start_comes_keeps o outer p signs.Const a r = (p, a, (r, refl), refl)
+start_comes_keeps o outer p signs.Int a r = (a, at p signs.Int ∷ [], (r, refl), variable_words (one_int p), refl)
+start_comes_keeps o outer p signs.Int32 a r = (a, at p signs.Int32 ∷ [], (r, refl), variable_words (whole_type (int32 p)), refl)
+start_comes_keeps o outer p signs.Signed a r = (a, at p signs.Signed ∷ [], (r, refl), variable_words (one_signed p), refl)
+start_comes_keeps o outer p s a r = changing_keeps (AsStart outer) p s a (o, r)
 
-pub test_comes_keeps : (start : Code) (outer : Stack) (p : Place) (s : Sign) (a : List Item) → Stands (TestComes start outer) a → IfSome (test_comes start outer p s) (λ next. Stands next (a ++ at p s ∷ []))
-test_comes_keeps start outer p signs.Semicolon a r = (r.0, r.1, r.2, r.3, r.4, at p signs.Semicolon ∷ [], r.5, r.6, no_test p, ap (λ (y : List Item). y ++ at p signs.Semicolon ∷ []) r.7 ∙ simp append_assoc)
+pub test_comes_keeps : (start : Start) (outer : Stack) (p : Place) (s : Sign) (a : List Item) → Stands (TestComes start outer) a → IfSome (test_comes start outer p s) (λ next. Stands next (a ++ at p s ∷ []))
+test_comes_keeps start outer p signs.Semicolon a r = (r.0, r.1, at p signs.Semicolon ∷ [], r.2, r.3, no_test p, ap (λ (y : List Item). y ++ at p signs.Semicolon ∷ []) r.4 ∙ append_assoc r.0 r.1 (at p signs.Semicolon ∷ []))
 test_comes_keeps start outer p s a r = want_keeps [] (ToRepeat start p outer) p s a r refl
 
-pub step_comes_keeps : (start : Code) (q : Place) (e : Term) (outer : Stack) (p : Place) (s : Sign) (a : List Item) → Stands (StepComes start q e outer) a → IfSome (step_comes start q e outer p s) (λ next. Stands next (a ++ at p s ∷ []))
+pub step_comes_keeps : (start : Start) (q : Place) (e : Term) (outer : Stack) (p : Place) (s : Sign) (a : List Item) → Stands (StepComes start q e outer) a → IfSome (step_comes start q e outer p s) (λ next. Stands next (a ++ at p s ∷ []))
 step_comes_keeps start q e outer p signs.Close a r = (
+  r.0,
+  r.1 ++ (r.2 ++ at p signs.Close ∷ []),
   r.3,
-  at r.0 signs.For ∷ at r.1 signs.Open ∷ (r.4 ++ at r.2 signs.Semicolon ∷ (r.5 ++ at p signs.Close ∷ [])),
-  r.6,
-  for_head r.0 r.1 r.2 p r.7 r.8 no_clause,
-  ap (λ (y : List Item). y ++ at p signs.Close ∷ []) r.9 ∙ simp append_assoc,
+  for_head p r.4 r.5 no_clause,
+  ap (λ (y : List Item). y ++ at p signs.Close ∷ []) r.6 ∙ simp append_assoc,
 )
 step_comes_keeps start q e outer p s a r = changing_keeps (AsStep start q e outer) p s a r
 
@@ -224,15 +234,25 @@ redo_comes_keeps q c outer p s a r = want_keeps [] (ToRedo q c p outer) p s a r 
 
 -- ---- declarations in `main`
 
-pub const_word_keeps : (outer : Stack) (p : Place) (s : Sign) (a : List Item) → Stands (LocalConst outer) a → IfSome (const_word outer s) (λ next. Stands next (a ++ at p s ∷ []))
-const_word_keeps outer p signs.Int a r = (r.1, at r.0 signs.Const ∷ at p signs.Int ∷ [], r.2, r.3, constant_words r.0 (one_int p), ap (λ (y : List Item). y ++ at p signs.Int ∷ []) r.4 ∙ append_assoc r.1 (at r.0 signs.Const ∷ []) (at p signs.Int ∷ []))
-const_word_keeps outer p signs.Int32 a r = (r.1, at r.0 signs.Const ∷ at p signs.Int32 ∷ [], r.2, r.3, constant_words r.0 (whole_type (int32 p)), ap (λ (y : List Item). y ++ at p signs.Int32 ∷ []) r.4 ∙ append_assoc r.1 (at r.0 signs.Const ∷ []) (at p signs.Int32 ∷ []))
-const_word_keeps outer p signs.Signed a r = (r.1, at r.0 signs.Const ∷ at p signs.Signed ∷ [], r.2, r.3, constant_words r.0 (one_signed p), ap (λ (y : List Item). y ++ at p signs.Signed ∷ []) r.4 ∙ append_assoc r.1 (at r.0 signs.Const ∷ []) (at p signs.Signed ∷ []))
-const_word_keeps outer p _ a r = tt
+pub const_word_keeps : (scope : Scope) (p : Place) (s : Sign) (a : List Item) → Stands (LocalConst scope) a → IfSome (const_word scope s) (λ next. Stands next (a ++ at p s ∷ []))
+const_word_keeps scope p signs.Int a r = (r.1, at r.0 signs.Const ∷ at p signs.Int ∷ [], r.2, constant_words r.0 (one_int p), ap (λ (y : List Item). y ++ at p signs.Int ∷ []) r.3 ∙ append_assoc r.1 (at r.0 signs.Const ∷ []) (at p signs.Int ∷ []))
+const_word_keeps scope p signs.Int32 a r = (r.1, at r.0 signs.Const ∷ at p signs.Int32 ∷ [], r.2, constant_words r.0 (whole_type (int32 p)), ap (λ (y : List Item). y ++ at p signs.Int32 ∷ []) r.3 ∙ append_assoc r.1 (at r.0 signs.Const ∷ []) (at p signs.Int32 ∷ []))
+const_word_keeps scope p signs.Signed a r = (r.1, at r.0 signs.Const ∷ at p signs.Signed ∷ [], r.2, constant_words r.0 (one_signed p), ap (λ (y : List Item). y ++ at p signs.Signed ∷ []) r.3 ∙ append_assoc r.1 (at r.0 signs.Const ∷ []) (at p signs.Signed ∷ []))
+const_word_keeps scope p _ a r = tt
 
-pub next_local_keeps : (kind : Qualifier) (outer : Stack) (p : Place) (s : Sign) (a : List Item) → InDeclaration kind outer a → IfSome (next_local kind outer p s) (λ next. Stands next (a ++ at p s ∷ []))
-next_local_keeps kind outer p (signs.Name x) a d = (a, d, refl)
-next_local_keeps kind outer p _ a d = tt
+-- the kind of a declarator is that with which it needs an initialiser
+held_kind : (scope : Scope) (kind : Qualifier) → initialising scope (initialising scope kind) ≡ initialising scope kind
+held_kind (ListScope outer) kind = refl
+held_kind (ForScope p made outer) kind = refl
+
+-- in a `for` the kind says nothing of what stands before
+held_declaration : (scope : Scope) (kind : Qualifier) (a : List Item) → InDeclaration kind scope a → InDeclaration (initialising scope kind) scope a
+held_declaration (ListScope outer) kind a d = d
+held_declaration (ForScope p made outer) kind a d = d
+
+pub next_local_keeps : (kind : Qualifier) (scope : Scope) (p : Place) (s : Sign) (a : List Item) → InDeclaration kind scope a → IfSome (next_local kind scope p s) (λ next. Stands next (a ++ at p s ∷ []))
+next_local_keeps kind scope p (signs.Name x) a d = (a, held_declaration scope kind a d, held_kind scope kind, refl)
+next_local_keeps kind scope p _ a d = tt
 
 -- a whole type
 pub words_qualified : {kind : Qualifier} {t : TypeWords} {us : List Item} → LocalWords kind t us → Qualified kind us
@@ -252,38 +272,39 @@ pub then_int : {kind : Qualifier} {us : List Item} (p : Place) → LocalWords ki
 then_int p (variable_words (one_signed q)) = variable_words (whole_type (signed_int q p))
 then_int p (constant_words r (one_signed q)) = constant_words r (whole_type (signed_int q p))
 
-behind_type_keeps : (kind : Qualifier) (words : TypeWords) (outer : Stack) (p : Place) (s : Sign) (a : List Item) → Stands (LocalType kind words outer) a → IfSome (behind_local_type kind outer p s) (λ next. Stands next (a ++ at p s ∷ []))
-behind_type_keeps Unqualified words outer p signs.Const a r =
-    let is : a ++ at p signs.Const ∷ [] ≡ r.0 ++ (r.1 ++ at p signs.Const ∷ []) = ap (λ (y : List Item). y ++ at p signs.Const ∷ []) r.5 ∙ append_assoc r.0 r.1 (at p signs.Const ∷ []) in
-    subst (InDeclaration Constant outer) (sym is) (declaration_begins outer r.0 (r.1 ++ at p signs.Const ∷ []) r.2 r.3 (then_const p r.4))
-behind_type_keeps kind words outer p s a r = next_local_keeps kind outer p s a (subst (InDeclaration kind outer) (sym r.5) (declaration_begins outer r.0 r.1 r.2 r.3 (words_qualified r.4)))
+behind_type_keeps : (kind : Qualifier) (words : TypeWords) (scope : Scope) (p : Place) (s : Sign) (a : List Item) → Stands (LocalType kind words scope) a → IfSome (behind_local_type kind scope p s) (λ next. Stands next (a ++ at p s ∷ []))
+behind_type_keeps Unqualified words scope p signs.Const a r =
+    let is : a ++ at p signs.Const ∷ [] ≡ r.0 ++ (r.1 ++ at p signs.Const ∷ []) = ap (λ (y : List Item). y ++ at p signs.Const ∷ []) r.4 ∙ append_assoc r.0 r.1 (at p signs.Const ∷ []) in
+    subst (InDeclaration Constant scope) (sym is) (declaration_begins scope r.0 (r.1 ++ at p signs.Const ∷ []) r.2 (then_const p r.3))
+behind_type_keeps kind words scope p s a r = next_local_keeps kind scope p s a (subst (InDeclaration kind scope) (sym r.4) (declaration_begins scope r.0 r.1 r.2 (words_qualified r.3)))
 
-pub local_type_keeps : (kind : Qualifier) (outer : Stack) (p : Place) (s : Sign) (words : TypeWords) (a : List Item) → Stands (LocalType kind words outer) a → IfSome (local_type kind outer p s words) (λ next. Stands next (a ++ at p s ∷ []))
-local_type_keeps kind outer p signs.Signed OneInt a r = (r.0, r.1 ++ at p signs.Signed ∷ [], r.2, r.3, then_signed p r.4, ap (λ (y : List Item). y ++ at p signs.Signed ∷ []) r.5 ∙ append_assoc r.0 r.1 (at p signs.Signed ∷ []))
-local_type_keeps kind outer p signs.Int OneSigned a r = (r.0, r.1 ++ at p signs.Int ∷ [], r.2, r.3, then_int p r.4, ap (λ (y : List Item). y ++ at p signs.Int ∷ []) r.5 ∙ append_assoc r.0 r.1 (at p signs.Int ∷ []))
-local_type_keeps kind outer p s words a r = behind_type_keeps kind words outer p s a r
+pub local_type_keeps : (kind : Qualifier) (scope : Scope) (p : Place) (s : Sign) (words : TypeWords) (a : List Item) → Stands (LocalType kind words scope) a → IfSome (local_type kind scope p s words) (λ next. Stands next (a ++ at p s ∷ []))
+local_type_keeps kind scope p signs.Signed OneInt a r = (r.0, r.1 ++ at p signs.Signed ∷ [], r.2, then_signed p r.3, ap (λ (y : List Item). y ++ at p signs.Signed ∷ []) r.4 ∙ append_assoc r.0 r.1 (at p signs.Signed ∷ []))
+local_type_keeps kind scope p signs.Int OneSigned a r = (r.0, r.1 ++ at p signs.Int ∷ [], r.2, then_int p r.3, ap (λ (y : List Item). y ++ at p signs.Int ∷ []) r.4 ∙ append_assoc r.0 r.1 (at p signs.Int ∷ []))
+local_type_keeps kind scope p s words a r = behind_type_keeps kind words scope p s a r
 
 -- a declarator ends
-local_end_keeps : (kind : Qualifier) (outer : Stack) (c : Code) (p : Place) (s : Sign) (a b ts : List Item) → InDeclaration kind outer b → LocalDeclarator kind ts c → a ≡ b ++ ts → IfSome (local_end kind outer c s) (λ next. Stands next (a ++ at p s ∷ []))
-local_end_keeps kind outer c p signs.Semicolon a b ts d h is = subst (Read (folded outer c)) (sym (ap (λ (y : List Item). y ++ at p signs.Semicolon ∷ []) is ∙ append_assoc b ts (at p signs.Semicolon ∷ []))) (declaration_ends p d h)
-local_end_keeps kind outer c p signs.Comma a b ts d h is = subst (InDeclaration kind (folded outer c)) (sym (ap (λ (y : List Item). y ++ at p signs.Comma ∷ []) is ∙ append_assoc b ts (at p signs.Comma ∷ []))) (declaration_goes_on p d h)
-local_end_keeps kind outer c p _ a b ts d h is = tt
+local_end_keeps : (kind : Qualifier) (scope : Scope) (c : Code) (p : Place) (s : Sign) (a b ts : List Item) → InDeclaration kind scope b → LocalDeclarator (initialising scope kind) ts c → a ≡ b ++ ts → IfSome (local_end kind scope c s) (λ next. Stands next (a ++ at p s ∷ []))
+local_end_keeps kind scope c p signs.Semicolon a b ts d h is = subst (Stands (behind_declaration (with_declarator scope c))) (sym (ap (λ (y : List Item). y ++ at p signs.Semicolon ∷ []) is ∙ append_assoc b ts (at p signs.Semicolon ∷ []))) (declaration_ends kind scope b ts p d h)
+local_end_keeps kind scope c p signs.Comma a b ts d h is = subst (InDeclaration kind (with_declarator scope c)) (sym (ap (λ (y : List Item). y ++ at p signs.Comma ∷ []) is ∙ append_assoc b ts (at p signs.Comma ∷ []))) (declaration_goes_on kind scope b ts p d h)
+local_end_keeps kind scope c p _ a b ts d h is = tt
 
-uninitialised_keeps : (kind : Qualifier) (q : Place) (x : ℕ) (outer : Stack) (p : Place) (s : Sign) (a : List Item) → Stands (LocalNamed kind q x outer) a → IfSome (without_initialiser kind q x outer s) (λ next. Stands next (a ++ at p s ∷ []))
-uninitialised_keeps Unqualified q x outer p s a r = local_end_keeps Unqualified outer (Input q x Done) p s a r.0 (at q (signs.Name x) ∷ []) r.1 (uninitialised q x) r.2
-uninitialised_keeps Constant q x outer p s a r = tt
-uninitialised_keeps (Counted last) q x outer p s a r = tt
+uninitialised_keeps : (kind : Qualifier) (q : Place) (x : ℕ) (scope : Scope) (p : Place) (s : Sign) (a : List Item) → Stands (LocalNamed kind q x scope) a → IfSome (without_initialiser kind q x scope s) (λ next. Stands next (a ++ at p s ∷ []))
+uninitialised_keeps Unqualified q x scope p s a r =
+    local_end_keeps Unqualified scope (Input q x Done) p s a r.0 (at q (signs.Name x) ∷ []) r.1 (subst (λ (k : Qualifier). LocalDeclarator k (at q (signs.Name x) ∷ []) (Input q x Done)) (sym r.2) (uninitialised q x)) r.3
+uninitialised_keeps Constant q x scope p s a r = tt
+uninitialised_keeps (Counted last) q x scope p s a r = tt
 
-pub local_named_keeps : (kind : Qualifier) (q : Place) (x : ℕ) (outer : Stack) (p : Place) (s : Sign) (a : List Item) → Stands (LocalNamed kind q x outer) a → IfSome (local_named kind q x outer s) (λ next. Stands next (a ++ at p s ∷ []))
-local_named_keeps kind q x outer p signs.Equals a r = ((p, r.0, r.1, ap (λ (y : List Item). y ++ at p signs.Equals ∷ []) r.2 ∙ append_assoc r.0 (at q (signs.Name x) ∷ []) (at p signs.Equals ∷ [])), λ z t. tt)
-local_named_keeps kind q x outer p s a r = uninitialised_keeps kind q x outer p s a r
+pub local_named_keeps : (kind : Qualifier) (q : Place) (x : ℕ) (scope : Scope) (p : Place) (s : Sign) (a : List Item) → Stands (LocalNamed kind q x scope) a → IfSome (local_named kind q x scope s) (λ next. Stands next (a ++ at p s ∷ []))
+local_named_keeps kind q x scope p signs.Equals a r = ((p, r.0, r.1, ap (λ (y : List Item). y ++ at p signs.Equals ∷ []) r.3 ∙ append_assoc r.0 (at q (signs.Name x) ∷ []) (at p signs.Equals ∷ [])), λ z t. tt)
+local_named_keeps kind q x scope p s a r = uninitialised_keeps kind q x scope p s a r
 
 -- a statement ends, or a declarator
 pub finishing_keeps : (made : Pending) (p : Place) (s : Sign) (a : List Item) → Stands (Finishing made) a → IfSome (finishing made s) (λ next. Stands next (a ++ at p s ∷ []))
 finishing_keeps (OfStatement site c) p signs.Semicolon a r = change_ends site c p a r
 finishing_keeps (OfStatement site c) p signs.Close a r = change_closes site c p a r
 finishing_keeps (OfStatement site c) p _ a r = tt
-finishing_keeps (OfLocal kind outer c) p s a r = local_end_keeps kind outer c p s a r.0 r.1 r.2 r.3 r.4
+finishing_keeps (OfLocal kind scope c) p s a r = local_end_keeps kind scope c p s a r.0 r.1 r.2 r.3 r.4
 
 -- ---- calls
 

@@ -12,7 +12,8 @@ use Rattle.c_grammar.specs.Ahead.{IsList, IsHeld}
 use Rattle.c_grammar.specs.Grammar.{at, int32, Qualifier, Unqualified, Constant, Counted, behind, Qualified, Declarator, bare, positive, negative, Ending, variables_end, constants_end, declared, Vars, Declares, last_var, next_var, Listed, Writes, none, static_local}
 use Rattle.c_grammar.specs.Machine.{Stack, StaticPart, BehindStatic, BehindStaticConst, BehindStaticType, BeforeStaticName, BehindStaticName, BehindStaticEquals, BehindStaticMinus, BehindStaticNumber, TypeWords, OneInt, OneSigned, WholeType, is_in_loop, folded, static_word, behind_static_word, static_name, behind_static_type, static_type, static_end, static_bare, static_named, static_value, static_negative, static_step}
 use Rattle.c_grammar.proofs.Standing.{Read, InStaticDeclaration, StandsStatic, Words, one_int, one_signed, whole_type, variable_words, constant_words, Stands}
-use Rattle.c_grammar.proofs.Complete.{folded-none, qualified_held}
+use Rattle.c_grammar.proofs.Folding.{folded-none}
+use Rattle.c_grammar.proofs.CompleteDeclarations.{qualified_held}
 use Rattle.c_grammar.proofs.Pieces.{fold_is}
 use Rattle.c_grammar.proofs.SoundStatements.{words_qualified, then_const, then_signed, then_int}
 

@@ -10,12 +10,18 @@ use Rattle.c_grammar.specs.declared.items.Item.{Item}
 use Rattle.c_grammar.specs.Ahead.{IsLooser, Loose, IsList, NoElse}
 use Rattle.c_grammar.specs.Grammar.{at, tighter, Prefix, Positive, Negative, Inverse, prefix_sign, Expresses, number, name, group, prefix, loose, binary, update_sign, Changes, Clause, Tests, Qualifier, LocalDeclarator, Shape, Listed, Stated, Chained, Locals, Writes, File}
 use Rattle.c_grammar.specs.Grammar as plain
-use Rattle.c_grammar.specs.Machine.{Frame, Paren, Pre, Left, room, Stack, Braces, Yes, No, ThenOf, ElseOf, LoopOf, DoOf, Site, AsStatement, AsStart, AsStep, Use, ToAssign, ToInitialise, ToUpdate, ToAssert, ToChoose, ToLoop, ToRepeat, ToRedo, ToReturn, ReadingState, Ready, NextLocal, Ended, Wants, Has, Named, Opens, StartComes, TestComes, StepComes, is_in_loop, folded, step}
+use Rattle.c_grammar.specs.Machine.{Frame, Paren, Pre, Left, room, Stack, Braces, Yes, No, ThenOf, ElseOf, LoopOf, DoOf, Start, ChangeStart, DeclaredStart, Scope, ListScope, ForScope, Site, AsStatement, AsStart, AsStep, Use, ToAssign, ToInitialise, ToUpdate, ToAssert, ToChoose, ToLoop, ToRepeat, ToRedo, ToReturn, ReadingState, Ready, NextLocal, Ended, Wants, Has, Named, Opens, StartComes, TestComes, StepComes, is_in_loop, folded, with_declarator, initialising, step}
 use Rattle.c_grammar.specs.Deep.{depth, opens_more, around, counted, is_deep, is_nested, is_long, Fault, went, guarded}
-use Rattle.c_grammar.specs.Within.{operators_in, more_by, Full, ChangesWithin, assignment, input_taken, compound_assignment, count_behind, count_before, ClauseWithin, no_clause, clause, TestsWithin, no_test, test, LocalWithin, uninitialised, initialised, from_call, WritesIn, none, more, choice, local, static_local, last_local, next_local, ends, otherwise, elif, change, call, void_call, assert, skip, block, while, for, if_then, if_else, do_while, break, continue, return}
-use Rattle.c_grammar.proofs.Complete.{comes, expr_no_semicolon, Free, free_of, no_else, chain_no_else, locals_named, looser, settled, folded-list, folded-inside}
+use Rattle.c_grammar.specs.Within.{operators_in, more_by, Full, ChangesWithin, assignment, input_taken, compound_assignment, count_behind, count_before, ClauseWithin, no_clause, clause, TestsWithin, no_test, test, LocalWithin, uninitialised, initialised, from_call, WritesIn, none, more, choice, local, static_local, last_local, next_local, ends, otherwise, elif, change, call, void_call, assert, skip, block, while, for, declaring_for, if_then, if_else, do_while, break, continue, return}
+use Rattle.c_grammar.proofs.CompleteExpressions.{looser, settled}
+use Rattle.c_grammar.proofs.StatementEnds.{Free, free_of, no_else, chain_no_else}
+use Rattle.c_grammar.proofs.CompleteChanges.{comes, expr_no_semicolon}
+use Rattle.c_grammar.proofs.CompleteDeclarations.{locals_named}
+use Rattle.c_grammar.proofs.Folding.{folded-list, folded-inside, IsScope, declared-scope, declared-kind}
 use Rattle.c_grammar.proofs.CompleteWithin.{takes, prefix_takes, prefix_more, operators_both, expresses_within}
-use Rattle.c_grammar.proofs.StatesWithin.{token, opens_in, group_in, folds_in, depth_folded, full_in, last_token, updates_in, named_in, last_sign, start_in, step_in, tests_begin, tests_in, head_in, for_in, body_in, redo_begins, return_in, qualified_in, initialiser_in, next_in, accepted_in, static_in}
+use Rattle.c_grammar.proofs.TokensWithin.{token, opens_in, group_in, folds_in, depth_folded, full_in, last_token, updates_in, named_in, last_sign, start_in, step_in, tests_begin, tests_in, head_in, for_in}
+use Rattle.c_grammar.proofs.DeclarationsWithin.{list_opens_in, for_opens_in, qualified_in, initialiser_in, next_in, static_in}
+use Rattle.c_grammar.proofs.StatesWithin.{body_in, redo_begins, return_in, accepted_in}
 
 -- ---- an item that is read
 
@@ -100,28 +106,28 @@ last_looser (AsStatement outer) = tt
 last_looser (AsStart outer) = tt
 last_looser (AsStep start p e outer) = tt
 
-change_back : {ts : List Item} {c : Code} → Changes ts c → (site : Site) (m : ℕ) (z : Place) (w : List Item) (f : File) → guarded (comes site) m (ts ++ at z (last_sign site) ∷ w) ≡ Ok f → ChangesWithin ts c
-change_back (plain.assignment p q x {ts} s) site m z w f h =
+change_back : {ts : List Item} {c : Code} → Changes ts c → (site : Site) (m : ℕ) (z o : Place) (w : List Item) (f : File) → guarded (comes o site) m (ts ++ at z (last_sign site) ∷ w) ≡ Ok f → ChangesWithin ts c
+change_back (plain.assignment p q x {ts} s) site m z o w f h =
     let begins =
-    named_in p x site m (at q signs.Equals ∷ (ts ++ at z (last_sign site) ∷ w))
+    named_in o p x site m (at q signs.Equals ∷ (ts ++ at z (last_sign site) ∷ w))
     ∙ token (Named p x site) (Wants [] (ToAssign p x site)) q signs.Equals 0 (ts ++ at z (last_sign site) ∷ w) refl refl refl in
     assignment p q x (then_back s (ToAssign p x site) (at z (last_sign site)) w f (last_looser site) (sym begins ∙ h))
-change_back (plain.input_taken p q r s t x g) site m z w f h = input_taken p q r s t x g
-change_back (plain.compound_assignment p q x u {ts} s) site m z w f h =
-    let begins = named_in p x site m (at q (update_sign u) ∷ (ts ++ at z (last_sign site) ∷ w)) ∙ updates_in p q x u site (ts ++ at z (last_sign site) ∷ w) in
+change_back (plain.input_taken p q r s t x g) site m z o w f h = input_taken p q r s t x g
+change_back (plain.compound_assignment p q x u {ts} s) site m z o w f h =
+    let begins = named_in o p x site m (at q (update_sign u) ∷ (ts ++ at z (last_sign site) ∷ w)) ∙ updates_in p q x u site (ts ++ at z (last_sign site) ∷ w) in
     compound_assignment p q x u (then_back s (ToUpdate p x u site) (at z (last_sign site)) w f (last_looser site) (sym begins ∙ h))
-change_back (plain.count_behind p q x u) site m z w f h = count_behind p q x u
-change_back (plain.count_before p q x u) site m z w f h = count_before p q x u
+change_back (plain.count_behind p q x u) site m z o w f h = count_behind p q x u
+change_back (plain.count_before p q x u) site m z o w f h = count_before p q x u
 
-start_back : {ts : List Item} {c : Code} → Clause ts c → (outer : Stack) (r : Place) (w : List Item) (f : File) → guarded (StartComes outer) 0 (ts ++ at r signs.Semicolon ∷ w) ≡ Ok f → ClauseWithin ts c
-start_back plain.no_clause outer r w f h = no_clause
-start_back (plain.clause s) outer r w f h = clause (change_back s (AsStart outer) 0 r w f h)
+start_back : {ts : List Item} {c : Code} → Clause ts c → (p : Place) (outer : Stack) (r : Place) (w : List Item) (f : File) → guarded (StartComes p outer) 0 (ts ++ at r signs.Semicolon ∷ w) ≡ Ok f → ClauseWithin ts c
+start_back plain.no_clause p outer r w f h = no_clause
+start_back (plain.clause s) p outer r w f h = clause (change_back s (AsStart outer) 0 r p w f h)
 
-step_back : {vs : List Item} {d : Code} → Clause vs d → (start : Code) (p : Place) (e : Term) (outer : Stack) (z : Place) (w : List Item) (f : File) → guarded (StepComes start p e outer) 0 (vs ++ at z signs.Close ∷ w) ≡ Ok f → ClauseWithin vs d
+step_back : {vs : List Item} {d : Code} → Clause vs d → (start : Start) (p : Place) (e : Term) (outer : Stack) (z : Place) (w : List Item) (f : File) → guarded (StepComes start p e outer) 0 (vs ++ at z signs.Close ∷ w) ≡ Ok f → ClauseWithin vs d
 step_back plain.no_clause start p e outer z w f h = no_clause
-step_back (plain.clause s) start p e outer z w f h = clause (change_back s (AsStep start p e outer) 0 z w f h)
+step_back (plain.clause s) start p e outer z w f h = clause (change_back s (AsStep start p e outer) 0 z p w f h)
 
-tests_back : {us : List Item} {t : Place} {e : Term} → Tests us t e → (start : Code) (outer : Stack) (w : List Item) (f : File) → guarded (TestComes start outer) 0 (us ++ w) ≡ Ok f → TestsWithin us t e
+tests_back : {us : List Item} {t : Place} {e : Term} → Tests us t e → (start : Start) (outer : Stack) (w : List Item) (f : File) → guarded (TestComes start outer) 0 (us ++ w) ≡ Ok f → TestsWithin us t e
 tests_back (plain.no_test s) start outer w f h = no_test s
 tests_back (plain.test s {x} {ts} e) start outer w f h =
     let begins = tests_begin start outer x ((ts ++ at s signs.Semicolon ∷ []) ++ w) (expr_no_semicolon e []) in
@@ -136,14 +142,15 @@ room_for (suc j) d e h = (j, refl)
 abbrev pub GoalBack : Shape → List Item → Code → Type 0
 GoalBack (Listed i) ts c = (k : ℕ) (outer : Stack) → IsList outer → is_in_loop outer ≡ i → k + depth outer ≡ 64 → (n : ℕ) (w : List Item) (f : File) → NoElse w → guarded (Ready outer) n (ts ++ w) ≡ Ok f → WritesIn k (Listed i) ts c
 GoalBack (Stated i b) ts c = (k : ℕ) (outer : Stack) → is_in_loop outer ≡ i → k + depth outer ≡ 64 → (n : ℕ) (w : List Item) (f : File) → Free b w → guarded (Ready outer) n (ts ++ w) ≡ Ok f → WritesIn k (Stated i b) ts c
-GoalBack (Locals kind) ts c = (k : ℕ) (outer : Stack) → IsList outer → (w : List Item) (f : File) → guarded (NextLocal kind outer) 0 (ts ++ w) ≡ Ok f → WritesIn k (Locals kind) ts c
+GoalBack (Locals held) ts c = (k : ℕ) (scope : Scope) (kind : Qualifier) → IsScope scope → initialising scope kind ≡ held → (w : List Item) (f : File) → guarded (NextLocal kind scope) 0 (ts ++ w) ≡ Ok f → WritesIn k (Locals held) ts c
 GoalBack (Chained i) ts d = (k : ℕ) (links : List (ℕ × Code)) (n : ℕ) (c : Code) (outer : Stack) → is_in_loop outer ≡ i → k + (suc (length links) + depth outer) ≡ 64 → (m : ℕ) (w : List Item) (f : File) → guarded (Ready (Yes links n c outer)) m (ts ++ w) ≡ Ok f → WritesIn k (Chained i) ts d
 
 -- a declarator in `main` and what ends it
-local_back : {kind : Qualifier} {ts : List Item} {c : Code} → LocalDeclarator kind ts c → (outer : Stack) (y : Item) (us w : List Item) (f : File) → IsLooser 6 y.sign → guarded (NextLocal kind outer) 0 ((ts ++ y ∷ us) ++ w) ≡ Ok f → LocalWithin kind ts c
-local_back (plain.uninitialised p x) outer y us w f l h = uninitialised p x
-local_back (plain.initialised p q x {kind} {ts} s) outer y us w f l h = initialised p q x (full_back s (ToInitialise kind p x outer) y us w f l (sym (initialiser_in kind p q x outer ((ts ++ y ∷ us) ++ w)) ∙ h))
-local_back (plain.from_call p q r s t x g) outer y us w f l h = from_call p q r s t x g
+local_back : {held : Qualifier} {ts : List Item} {c : Code} → LocalDeclarator held ts c → (scope : Scope) (kind : Qualifier) → initialising scope kind ≡ held → (y : Item) (us w : List Item) (f : File) → IsLooser 6 y.sign → guarded (NextLocal kind scope) 0 ((ts ++ y ∷ us) ++ w) ≡ Ok f → LocalWithin held ts c
+local_back (plain.uninitialised p x) scope kind is y us w f l h = uninitialised p x
+local_back (plain.initialised p q x {kind = held} {ts} s) scope kind is y us w f l h =
+    initialised p q x (full_back s (ToInitialise held p x scope) y us w f l (sym (initialiser_in scope kind held is p q x ((ts ++ y ∷ us) ++ w)) ∙ h))
+local_back (plain.from_call p q r s t x g) scope kind is y us w f l h = from_call p q r s t x g
 
 pub writes_back : {s : Shape} {ts : List Item} {c : Code} → Writes s ts c → GoalBack s ts c
 writes_back plain.none = λ k outer is inside e m w f fr h. none
@@ -170,19 +177,19 @@ writes_back (plain.choice p n {ts} {us} {vs} {c} {d} {e = g} {i} s t l) = λ k o
     let h3 = sym (accepted_in second [] n c outer inside within 0 (vs ++ w) ∙ folds_in outer made 0 (vs ++ w) is r) ∙ h2 in
     let third = writes_back l k (folded outer made) (folded-list outer made is) (folded-inside outer made ∙ inside) (omega (arith, e, depth_folded outer made is)) 0 w f fr h3 in
     subst (λ (y : ℕ). WritesIn y (Listed i) (at p (signs.GroupIf n) ∷ (ts ++ (us ++ vs))) (Cond n c d g)) (sym j.1) (choice p n first second (subst (λ (y : ℕ). WritesIn y (Listed i) vs g) j.1 third))
-writes_back (plain.local {ts} {us} {vs} {c} {d} g s l) = λ k outer is inside e m w f fr h.
+writes_back (plain.local {ts} {us} {vs} {c} {d} {kind} g s l) = λ k outer is inside e m w f fr h.
     let begins =
     ap (guarded (Ready outer) m) (append_assoc ts (us ++ vs) w ∙ ap (λ (x : List Item). ts ++ x) (append_assoc us vs w))
-    ∙ qualified_in g outer is m (us ++ (vs ++ w)) (locals_named s (vs ++ w)) in
+    ∙ qualified_in g (ListScope outer) (list_opens_in outer is) m (us ++ (vs ++ w)) (locals_named s (vs ++ w)) in
     let h1 = sym begins ∙ h in
-    let first = writes_back s k outer is (vs ++ w) f h1 in
-    let h2 = sym (accepted_in first outer is (vs ++ w)) ∙ h1 in
+    let first = writes_back s k (ListScope outer) kind is refl (vs ++ w) f h1 in
+    let h2 = sym (accepted_in first (ListScope outer) kind is refl (vs ++ w)) ∙ h1 in
     local g first (writes_back l k (folded outer c) (folded-list outer c is) (folded-inside outer c ∙ inside) (omega (arith, e, depth_folded outer c is)) 0 w f fr h2)
 writes_back (plain.static_local p {vs = vs} q v l) = λ k outer is inside e m w f fr h. static_local p q v (writes_back l k outer is inside e 0 w f fr (sym (static_in p q v outer is m vs w) ∙ h))
-writes_back (plain.last_local p s) = λ k outer is w f h. last_local p (local_back s outer (at p signs.Semicolon) [] w f tt h)
-writes_back (plain.next_local p {ts} {us} {c} {d} s l) = λ k outer is w f h.
-    let first = local_back s outer (at p signs.Comma) us w f tt h in
-    next_local p first (writes_back l k (folded outer c) (folded-list outer c is) w f (sym (next_in first outer p us w) ∙ h))
+writes_back (plain.last_local p s) = λ k scope kind is held w f h. last_local p (local_back s scope kind held (at p signs.Semicolon) [] w f tt h)
+writes_back (plain.next_local p {ts} {us} {c} {d} {kind = own} s l) = λ k scope kind is held w f h.
+    let first = local_back s scope kind held (at p signs.Comma) us w f tt h in
+    next_local p first (writes_back l k (with_declarator scope c) own (declared-scope scope c is) (declared-kind scope c kind own held) w f (sym (next_in first scope kind held p us w) ∙ h))
 writes_back (plain.ends p) = λ k links n c outer inside e m w f h. ends p
 writes_back (plain.otherwise p q {ts} {c} s) = λ k links n a outer inside e m w f h.
     let begins =
@@ -203,7 +210,7 @@ writes_back (plain.elif p i {ts} {us} {c} {d} {i = l} s t) = λ k links n a oute
     let second = writes_back t j.0 ((n, a) ∷ links) i c outer inside one 0 w f h2 in
     subst (λ (y : ℕ). WritesIn y (Chained l) (at p (signs.GroupElif i) ∷ (ts ++ us)) (Cond i c d Done)) (sym j.1) (elif p i first second)
 writes_back (plain.change r {ts} s) = λ k outer inside room_is m w f fr h.
-    change r (change_back s (AsStatement outer) m r w f (sym (ap (guarded (Ready outer) m) (append_assoc ts (at r signs.Semicolon ∷ []) w)) ∙ h))
+    change r (change_back s (AsStatement outer) m r r w f (sym (ap (guarded (Ready outer) m) (append_assoc ts (at r signs.Semicolon ∷ []) w)) ∙ h))
 writes_back (plain.call p q r s g) = λ k outer inside e m w f fr h. call p q r s g
 writes_back (plain.void_call p q r s t u v g) = λ k outer inside e m w f fr h. void_call p q r s t u v g
 writes_back (plain.assert p q r z {ts} {e} s) = λ k outer inside room_is m w f fr h.
@@ -227,10 +234,11 @@ writes_back (plain.while p q r {b} {ts} {us} {e} {c} {i} s t) = λ k outer insid
     let one : j.0 + suc (depth outer) ≡ 64 = omega (arith, room_is, j.1) in
     let h1 = sym (head_in (ToLoop p outer) outer p q signs.While m ((ts ++ at r signs.Close ∷ us) ++ w) refl le) ∙ h in
     let full = full_back s (ToLoop p outer) (at r signs.Close) us w f tt h1 in
-    let h2 = sym (full_in full (ToLoop p outer) (at r signs.Close) us w tt ∙ last_token full (ToLoop p outer) (Ready (LoopOf Done p e Done outer)) r signs.Close (us ++ w) refl refl refl refl) ∙ h1 in
-    let inner = writes_back t j.0 (LoopOf Done p e Done outer) refl one 0 w f fr h2 in
+    let h2 = sym (full_in full (ToLoop p outer) (at r signs.Close) us w tt ∙ last_token full (ToLoop p outer) (Ready (LoopOf (ChangeStart Done) p e Done outer)) r signs.Close (us ++ w) refl refl refl refl) ∙ h1 in
+    let inner = writes_back t j.0 (LoopOf (ChangeStart Done) p e Done outer) refl one 0 w f fr h2 in
     subst (λ (y : ℕ). WritesIn y (Stated i b) (at p signs.While ∷ at q signs.Open ∷ (ts ++ at r signs.Close ∷ us)) (While p e Done c Done)) (sym j.1) (while p q r full inner)
-writes_back (plain.for p q r z {b} {ts} {us} {vs} {ws} {start} {step = advance} {c} {t} {e} {i} a g d s) = λ k outer inside room_is m w f fr h.
+writes_back (plain.for p q r z {b} {ts} {us} {vs} {ws} {start = before} {step = advance} {c} {t} {e} {i} a g d s) = λ k outer inside room_is m w f fr h.
+    let start : Start = ChangeStart before in
     let text : List Item = ts ++ at r signs.Semicolon ∷ (us ++ (vs ++ at z signs.Close ∷ ws)) in
     let rest : List Item = us ++ (vs ++ at z signs.Close ∷ (ws ++ w)) in
     let re : text ++ w ≡ ts ++ at r signs.Semicolon ∷ rest = simp append_assoc in
@@ -239,14 +247,35 @@ writes_back (plain.for p q r z {b} {ts} {us} {vs} {ws} {start} {step = advance} 
     let one : j.0 + suc (depth outer) ≡ 64 = omega (arith, room_is, j.1) in
     let begins = ap (λ (l : List Item). guarded (Ready outer) m (at p signs.For ∷ at q signs.Open ∷ l)) re ∙ for_in outer p q m (ts ++ at r signs.Semicolon ∷ rest) le in
     let h1 = sym begins ∙ h in
-    let first = start_back a outer r rest f h1 in
-    let h2 = sym (start_in first outer r rest) ∙ h1 in
+    let first = start_back a p outer r rest f h1 in
+    let h2 = sym (start_in first p outer r rest) ∙ h1 in
     let tests = tests_back g start outer (vs ++ at z signs.Close ∷ (ws ++ w)) f h2 in
     let h3 = sym (tests_in tests start outer (vs ++ at z signs.Close ∷ (ws ++ w))) ∙ h2 in
     let last = step_back d start t e outer z (ws ++ w) f h3 in
     let h4 = sym (step_in last start t e outer z (ws ++ w)) ∙ h3 in
     let inner = writes_back s j.0 (LoopOf start t e advance outer) refl one 0 w f fr h4 in
-    subst (λ (y : ℕ). WritesIn y (Stated i b) (at p signs.For ∷ at q signs.Open ∷ text) (followed start (While t e advance c Done))) (sym j.1) (for p q r z first tests last inner)
+    subst (λ (y : ℕ). WritesIn y (Stated i b) (at p signs.For ∷ at q signs.Open ∷ text) (followed before (While t e advance c Done))) (sym j.1) (for p q r z first tests last inner)
+writes_back (plain.declaring_for p q z {b} {ts} {ds} {us} {vs} {ws} {start = before} {step = advance} {c} {t} {e} {kind} {i} y l g d s) = λ k outer inside room_is m w f fr h.
+    let start : Start = DeclaredStart p before in
+    let text : List Item = ts ++ (ds ++ (us ++ (vs ++ at z signs.Close ∷ ws))) in
+    let rest : List Item = us ++ (vs ++ at z signs.Close ∷ (ws ++ w)) in
+    let re : text ++ w ≡ ts ++ (ds ++ rest) = simp append_assoc in
+    let le : suc (depth outer) ≤ 64 = opens_few (Ready outer) m (at p signs.For) (at q signs.Open ∷ (text ++ w)) f refl h in
+    let j = room_for k (depth outer) room_is le in
+    let one : j.0 + suc (depth outer) ≡ 64 = omega (arith, room_is, j.1) in
+    let begins =
+    ap (λ (x : List Item). guarded (Ready outer) m (at p signs.For ∷ at q signs.Open ∷ x)) re
+    ∙ for_in outer p q m (ts ++ (ds ++ rest)) le
+    ∙ qualified_in y (ForScope p Done outer) (for_opens_in p outer) 0 (ds ++ rest) (locals_named l rest) in
+    let h1 = sym begins ∙ h in
+    let first = writes_back l j.0 (ForScope p Done outer) kind tt refl rest f h1 in
+    let h2 = sym (accepted_in first (ForScope p Done outer) kind tt refl rest) ∙ h1 in
+    let tests = tests_back g start outer (vs ++ at z signs.Close ∷ (ws ++ w)) f h2 in
+    let h3 = sym (tests_in tests start outer (vs ++ at z signs.Close ∷ (ws ++ w))) ∙ h2 in
+    let last = step_back d start t e outer z (ws ++ w) f h3 in
+    let h4 = sym (step_in last start t e outer z (ws ++ w)) ∙ h3 in
+    let inner = writes_back s j.0 (LoopOf start t e advance outer) refl one 0 w f fr h4 in
+    subst (λ (x : ℕ). WritesIn x (Stated i b) (at p signs.For ∷ at q signs.Open ∷ text) (Block p (followed before (While t e advance c Done)) Done)) (sym j.1) (declaring_for p q z y first tests last inner)
 writes_back (plain.if_then p q r {b} {ts} {us} {e} {c} {i} s t) = λ k outer inside room_is m w f fr h.
     let le : suc (depth outer) ≤ 64 = opens_few (Ready outer) m (at p signs.If) (at q signs.Open ∷ ((ts ++ at r signs.Close ∷ us) ++ w)) f refl h in
     let j = room_for k (depth outer) room_is le in

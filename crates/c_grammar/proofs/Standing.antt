@@ -8,8 +8,8 @@ use Rattle.c_grammar.specs.declared.items.Sign.{Sign}
 use Rattle.c_grammar.specs.declared.items.Sign.TheVariants as signs
 use Rattle.c_grammar.specs.declared.items.Item.{Item}
 use Rattle.c_grammar.specs.Ahead.{IsList, IsHeld}
-use Rattle.c_grammar.specs.Grammar.{at, tighter, prefix_sign, Expresses, update_sign, count_sign, Callable, Changes, Clause, Tests, Listed, Stated, Locals, LocalDeclarator, Writes, Optional, Typed, Qualifier, Unqualified, Constant, Counted, Begins, Declarator, Defines, with_true, with_false, Outer, Vars, Later, Declares, Gaps, GapRest, Empty, Body, Main, File, file_of, Forms}
-use Rattle.c_grammar.specs.Machine.{Tailing, Another, Final, Frame, Paren, Pre, Left, room, Stack, Top, Braces, Yes, No, ThenOf, ElseOf, LoopOf, DoOf, Onward, InList, AtTest, Site, AsStatement, AsStart, AsStep, Use, ToAssign, ToInitialise, ToUpdate, ToAssert, ToChoose, ToLoop, ToRepeat, ToRedo, ToReturn, Pending, OfStatement, OfLocal, Sections, Outermost, InPart, InLast, guards_of, Aim, ToPrototype, ToMain, ReadingState, Outside, AfterStatic, AfterExtern, AfterConst, AfterEnum, AfterVoidType, AfterType, Leading, NoWord, StaticWord, ExternWord, ConstWord, TypeWords, OneInt, OneSigned, WholeType, Declaring, Bare, Starting, Negating, Started, Listing, Enumerated, AfterDefine, Defining, NegativeDefining, Enclosing, NegativeEnclosing, Enclosed, Parameters, InParameters, AfterVoid, AfterParameters, Ready, LocalConst, LocalType, NextLocal, LocalNamed, Ended, Wants, Has, Counting, Named, Opens, ForOpens, StartComes, TestComes, StepComes, RedoOpens, RedoComes, VoidComes, VoidCloses, CallComes, CallOpens, CallCloses, Finishing, Over, is_in_loop, folded, InStatic, BehindStatic, BehindStaticConst, BehindStaticType, BeforeStaticName, BehindStaticName, BehindStaticEquals, BehindStaticMinus, BehindStaticNumber, StaticPart}
+use Rattle.c_grammar.specs.Grammar.{at, tighter, prefix_sign, Expresses, update_sign, count_sign, Callable, Changes, Clause, Tests, Listed, Stated, Locals, LocalDeclarator, Writes, Optional, Typed, Qualifier, Unqualified, Constant, Counted, Qualified, Begins, Declarator, Defines, with_true, with_false, Outer, Vars, Later, Declares, Gaps, GapRest, Empty, Body, Main, File, file_of, Forms}
+use Rattle.c_grammar.specs.Machine.{Tailing, Another, Final, Frame, Paren, Pre, Left, room, Stack, Top, Braces, Yes, No, ThenOf, ElseOf, LoopOf, DoOf, Start, ChangeStart, DeclaredStart, Onward, InList, AtTest, Scope, ListScope, ForScope, Site, AsStatement, AsStart, AsStep, Use, ToAssign, ToInitialise, ToUpdate, ToAssert, ToChoose, ToLoop, ToRepeat, ToRedo, ToReturn, Pending, OfStatement, OfLocal, Sections, Outermost, InPart, InLast, guards_of, Aim, ToPrototype, ToMain, ReadingState, Outside, AfterStatic, AfterExtern, AfterConst, AfterEnum, AfterVoidType, AfterType, Leading, NoWord, StaticWord, ExternWord, ConstWord, TypeWords, OneInt, OneSigned, WholeType, Declaring, Bare, Starting, Negating, Started, Listing, Enumerated, AfterDefine, Defining, NegativeDefining, Enclosing, NegativeEnclosing, Enclosed, Parameters, InParameters, AfterVoid, AfterParameters, Ready, LocalConst, LocalType, NextLocal, LocalNamed, Ended, Wants, Has, Counting, Named, Opens, ForOpens, StartComes, TestComes, StepComes, RedoOpens, RedoComes, VoidComes, VoidCloses, CallComes, CallOpens, CallCloses, Finishing, Over, is_in_loop, folded, initialising, InStatic, BehindStatic, BehindStaticConst, BehindStaticType, BeforeStaticName, BehindStaticName, BehindStaticEquals, BehindStaticMinus, BehindStaticNumber, StaticPart}
 
 -- the parts of a group before this one, and its directive, in the body of a loop or not
 abbrev pub Begun : Bool → List (ℕ × Code) → ℕ → List Item → Type 0
@@ -20,10 +20,15 @@ Begun i (l ∷ links) n a = (p : Place) × (b ts : List Item) × Begun i links l
 abbrev pub Headed : List Item → List Declared → Type 0
 Headed b ds = (us : List Item) (c : Code) (q : Place) → Body us c q → Forms (b ++ us) (file_of ds c q)
 
+-- what of a `for` stands before its first test, with what it does there
+pub data StartHead : Start → List Item → Type 0 where
+  change_head : (p q r : Place) {ts : List Item} {c : Code} → Clause ts c → StartHead (ChangeStart c) (at p signs.For ∷ at q signs.Open ∷ (ts ++ at r signs.Semicolon ∷ []))
+  declaration_head : (p q : Place) {ts us : List Item} {c : Code} {kind : Qualifier} → Qualified kind ts → Writes (Locals Constant) us c → StartHead (DeclaredStart p c) (at p signs.For ∷ at q signs.Open ∷ (ts ++ us))
+
 -- what stands before the body of a loop, with what it does before its first test, its place, its test and its step
-pub data LoopHead : Code → Place → Term → Code → List Item → Type 0 where
-  while_head : (p q r : Place) {ts : List Item} {e : Term} → Expresses 6 ts e → LoopHead Done p e Done (at p signs.While ∷ at q signs.Open ∷ (ts ++ at r signs.Close ∷ []))
-  for_head : (p q r s : Place) {ts us vs : List Item} {start advance : Code} {t : Place} {e : Term} → Clause ts start → Tests us t e → Clause vs advance → LoopHead start t e advance (at p signs.For ∷ at q signs.Open ∷ (ts ++ at r signs.Semicolon ∷ (us ++ (vs ++ at s signs.Close ∷ []))))
+pub data LoopHead : Start → Place → Term → Code → List Item → Type 0 where
+  while_head : (p q r : Place) {ts : List Item} {e : Term} → Expresses 6 ts e → LoopHead (ChangeStart Done) p e Done (at p signs.While ∷ at q signs.Open ∷ (ts ++ at r signs.Close ∷ []))
+  for_head : (s : Place) {ts us vs : List Item} {start : Start} {advance : Code} {t : Place} {e : Term} → StartHead start ts → Tests us t e → Clause vs advance → LoopHead start t e advance (ts ++ (us ++ (vs ++ at s signs.Close ∷ [])))
 
 abbrev pub Read : Stack → List Item → Type 0
 Read (Top ds made) a = (b ts : List Item) × Headed b ds × Writes (Listed false) ts made × (a ≡ b ++ ts)
@@ -51,24 +56,29 @@ StandsOn (InList outer) a = Read outer a
 StandsOn (AtTest p c outer) a = BehindBody p c outer a
 
 -- in the parentheses of a `for`: before what stands before its first test; before its test; behind its test
-abbrev pub InStart : Stack → List Item → Type 0
-InStart outer a = (p q : Place) × (b : List Item) × Read outer b × (a ≡ b ++ (at p signs.For ∷ at q signs.Open ∷ []))
+abbrev pub InStart : Place → Stack → List Item → Type 0
+InStart p outer a = (q : Place) × (b : List Item) × Read outer b × (a ≡ b ++ (at p signs.For ∷ at q signs.Open ∷ []))
 
-abbrev pub InTest : Code → Stack → List Item → Type 0
-InTest start outer a = (p q r : Place) × (b ts : List Item) × Read outer b × Clause ts start × (a ≡ b ++ (at p signs.For ∷ at q signs.Open ∷ (ts ++ at r signs.Semicolon ∷ [])))
+abbrev pub InTest : Start → Stack → List Item → Type 0
+InTest start outer a = (b ts : List Item) × Read outer b × StartHead start ts × (a ≡ b ++ ts)
 
-abbrev pub InStep : Code → Place → Term → Stack → List Item → Type 0
-InStep start t e outer a = (p q r : Place) × (b ts us : List Item) × Read outer b × Clause ts start × Tests us t e × (a ≡ b ++ (at p signs.For ∷ at q signs.Open ∷ (ts ++ at r signs.Semicolon ∷ us)))
+abbrev pub InStep : Start → Place → Term → Stack → List Item → Type 0
+InStep start t e outer a = (b ts us : List Item) × Read outer b × StartHead start ts × Tests us t e × (a ≡ b ++ (ts ++ us))
 
 -- before a change
 abbrev pub AtSite : Site → List Item → Type 0
 AtSite (AsStatement outer) a = Read outer a
-AtSite (AsStart outer) a = InStart outer a
+AtSite (AsStart outer) a = (p : Place) × InStart p outer a
 AtSite (AsStep start p e outer) a = InStep start p e outer a
 
--- a declaration in `main` up to a name: the stack before it and its items, what its declarators so far make, and that those which may
+-- before a declaration in `main`
+abbrev pub BeforeDeclaration : Scope → List Item → Type 0
+BeforeDeclaration (ListScope outer) a = Read outer a × IsList outer
+BeforeDeclaration (ForScope p made outer) a = InStart p outer a × (made ≡ Done)
+
+-- a declaration in a list up to a name: the stack before it and its items, what its declarators so far make, and that those which may
 -- come next make a list with them
-pub record InDeclaration (kind : Qualifier) (outer : Stack) (a : List Item) : Type 0 where
+pub record InListDeclaration (kind : Qualifier) (outer : Stack) (a : List Item) : Type 0 where
   pub before : Stack
   pub start : List Item
   pub made : Code
@@ -79,9 +89,25 @@ pub record InDeclaration (kind : Qualifier) (outer : Stack) (a : List Item) : Ty
   pub goes_on : (ts : List Item) (c : Code) → Writes (Locals kind) ts c → Writes (Listed (is_in_loop before)) (text ++ ts) (followed made c)
   pub parts : a ≡ start ++ text
 
+-- the same in the parentheses of a `for` at this place: its type, and its declarators so far, with what they make
+pub record InForDeclaration (p : Place) (made : Code) (outer : Stack) (a : List Item) : Type 0 where
+  pub paren : Place
+  pub kind : Qualifier
+  pub start : List Item
+  pub words : List Item
+  pub text : List Item
+  pub is_read : Read outer start
+  pub is_qualified : Qualified kind words
+  pub goes_on : (ts : List Item) (c : Code) → Writes (Locals Constant) ts c → Writes (Locals Constant) (text ++ ts) (followed made c)
+  pub parts : a ≡ start ++ (at p signs.For ∷ at paren signs.Open ∷ (words ++ text))
+
+abbrev pub InDeclaration : Qualifier → Scope → List Item → Type 0
+InDeclaration kind (ListScope outer) a = InListDeclaration kind outer a
+InDeclaration kind (ForScope p made outer) a = InForDeclaration p made outer a
+
 abbrev pub Used : Use → List Item → Type 0
 Used (ToAssign p x site) a = (q : Place) × (b : List Item) × AtSite site b × (a ≡ b ++ (at p (signs.Name x) ∷ at q signs.Equals ∷ []))
-Used (ToInitialise kind p x outer) a = (q : Place) × (b : List Item) × InDeclaration kind outer b × (a ≡ b ++ (at p (signs.Name x) ∷ at q signs.Equals ∷ []))
+Used (ToInitialise kind p x scope) a = (q : Place) × (b : List Item) × InDeclaration kind scope b × (a ≡ b ++ (at p (signs.Name x) ∷ at q signs.Equals ∷ []))
 Used (ToUpdate p x u site) a = (q : Place) × (b : List Item) × AtSite site b × (a ≡ b ++ (at p (signs.Name x) ∷ at q (update_sign u) ∷ []))
 Used (ToAssert p outer) a = (q : Place) × (b : List Item) × Read outer b × (a ≡ b ++ (at p signs.Assert ∷ at q signs.Open ∷ []))
 Used (ToChoose p outer) a = (q : Place) × (b : List Item) × Read outer b × (a ≡ b ++ (at p signs.If ∷ at q signs.Open ∷ []))
@@ -92,7 +118,7 @@ Used (ToReturn p outer) a = (b : List Item) × Read outer b × (a ≡ b ++ at p 
 
 abbrev pub UsedAt : Use → List Item → Type 0
 UsedAt (ToAssign p x site) a = ⊥
-UsedAt (ToInitialise kind p x outer) a = ⊥
+UsedAt (ToInitialise kind p x scope) a = ⊥
 UsedAt (ToUpdate p x u site) a = ⊥
 UsedAt (ToAssert p outer) a = (b : List Item) × Read outer b × (a ≡ b ++ at p signs.Assert ∷ [])
 UsedAt (ToChoose p outer) a = (b : List Item) × Read outer b × (a ≡ b ++ at p signs.If ∷ [])
@@ -126,7 +152,7 @@ Framed u (Left op x ∷ fs) a = (p : Place) × (b us : List Item) × Framed u fs
 -- what stands before what is pending, and its own items
 abbrev pub StandsBefore : Pending → List Item → Type 0
 StandsBefore (OfStatement site c) b = AtSite site b
-StandsBefore (OfLocal kind outer c) b = InDeclaration kind outer b
+StandsBefore (OfLocal kind scope c) b = InDeclaration kind scope b
 
 -- a statement but for its semicolon, or a change in a `for`
 abbrev pub PendsAt : Site → Code → List Item → Type 0
@@ -136,7 +162,7 @@ PendsAt (AsStep start p e outer) c ts = Changes ts c
 
 abbrev pub Pends : Pending → List Item → Type 0
 Pends (OfStatement site c) ts = PendsAt site c ts
-Pends (OfLocal kind outer c) ts = LocalDeclarator kind ts c
+Pends (OfLocal kind scope c) ts = LocalDeclarator (initialising scope kind) ts c
 
 -- what is put into the stack: in a list any list, elsewhere one statement
 abbrev pub Piece : Bool → Stack → List Item → Code → Type 0
@@ -258,10 +284,10 @@ Stands (InParameters aim) a = Follows a (λ w f. (r : Place) → ParametersTail 
 Stands (AfterVoid aim) a = Follows a (λ w f. (r t : Place) → ParametersTail aim (at r signs.Open ∷ at t signs.Void ∷ w) f)
 Stands (AfterParameters aim) a = Follows a (λ w f. (r s : Place) (us : List Item) → Optional signs.Void us → ParametersTail aim (at r signs.Open ∷ (us ++ at s signs.Close ∷ w)) f)
 Stands (Ready outer) a = Read outer a
-Stands (LocalConst outer) a = (p : Place) × (b : List Item) × Read outer b × IsList outer × (a ≡ b ++ at p signs.Const ∷ [])
-Stands (LocalType kind words outer) a = (b us : List Item) × Read outer b × IsList outer × LocalWords kind words us × (a ≡ b ++ us)
-Stands (NextLocal kind outer) a = InDeclaration kind outer a
-Stands (LocalNamed kind p x outer) a = (b : List Item) × InDeclaration kind outer b × (a ≡ b ++ at p (signs.Name x) ∷ [])
+Stands (LocalConst scope) a = (p : Place) × (b : List Item) × BeforeDeclaration scope b × (a ≡ b ++ at p signs.Const ∷ [])
+Stands (LocalType kind words scope) a = (b us : List Item) × BeforeDeclaration scope b × LocalWords kind words us × (a ≡ b ++ us)
+Stands (NextLocal kind scope) a = InDeclaration kind scope a
+Stands (LocalNamed kind p x scope) a = (b : List Item) × InDeclaration kind scope b × (initialising scope kind ≡ kind) × (a ≡ b ++ at p (signs.Name x) ∷ [])
 Stands (InStatic part outer) a = StandsStatic part outer a
 Stands (Ended outer c) a = (b ts : List Item) × Read outer b × Piece false outer ts c × (a ≡ b ++ ts)
 Stands (Wants fs u) a = Framed u fs a × ((p : Place) (s : Sign) → Leads u fs (at p s ∷ []))
@@ -269,8 +295,8 @@ Stands (Has fs u e) a = (b ts : List Item) × Framed u fs b × Leads u fs ts × 
 Stands (Counting p u site) a = (b : List Item) × AtSite site b × (a ≡ b ++ at p (count_sign u) ∷ [])
 Stands (Named p x site) a = (b : List Item) × AtSite site b × (a ≡ b ++ at p (signs.Name x) ∷ [])
 Stands (Opens u) a = UsedAt u a
-Stands (ForOpens outer) a = (p : Place) × (b : List Item) × Read outer b × (a ≡ b ++ at p signs.For ∷ [])
-Stands (StartComes outer) a = InStart outer a
+Stands (ForOpens p outer) a = (b : List Item) × Read outer b × (a ≡ b ++ at p signs.For ∷ [])
+Stands (StartComes p outer) a = InStart p outer a
 Stands (TestComes start outer) a = InTest start outer a
 Stands (StepComes start p e outer) a = InStep start p e outer a
 Stands (RedoOpens p c outer) a = BehindWhile p c outer a

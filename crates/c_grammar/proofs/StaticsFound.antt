@@ -14,8 +14,8 @@ use Rattle.c_grammar.specs.Groups.{guarded_by, Sections, Outermost, InPart, InLa
 use Rattle.c_grammar.specs.Items.{is_main, is_declaring}
 use Rattle.c_grammar.specs.Statics.{behind_main, static_behind, statics_from, statics_by}
 use Rattle.c_grammar.specs.LocalsOf.{statics_in, statics_of_body, statics_of_main, StaticsAreOfTheGrammar}
-use Rattle.c_grammar.specs.Grammar.{at, bare, positive, negative, variables_end, constants_end, Typed, int, int32, signed, signed_int, int_signed, Qualifier, Unqualified, Constant, Counted, Qualified, unqualified, const_before, const_behind, with_true, with_false, declared, Vars, Declares, last_var, next_var, Shape, Listed, Stated, Chained, Locals, Writes, none, more, choice, local, static_local, last_local, next_local, ends, otherwise, elif, change, call, void_call, assert, skip, block, while, for, if_then, if_else, do_while, break, continue, return, Part, Begins, only_type, then_type, enumeration, nothing, variables, prototype, void_prototype, definition, section, end_part, else_part, elif_part, Gap, Gaps, Empty, no_more, empty_section, empty_end, empty_else, empty_elif, Body, body, Main, main, file}
-use Rattle.c_grammar.proofs.Complete.{qualified_held}
+use Rattle.c_grammar.specs.Grammar.{at, bare, positive, negative, variables_end, constants_end, Typed, int, int32, signed, signed_int, int_signed, Qualifier, Unqualified, Constant, Counted, Qualified, unqualified, const_before, const_behind, with_true, with_false, declared, Vars, Declares, last_var, next_var, Shape, Listed, Stated, Chained, Locals, Writes, none, more, choice, local, static_local, last_local, next_local, ends, otherwise, elif, change, call, void_call, assert, skip, block, while, for, declaring_for, if_then, if_else, do_while, break, continue, return, Part, Begins, only_type, then_type, enumeration, nothing, variables, prototype, void_prototype, definition, section, end_part, else_part, elif_part, Gap, Gaps, Empty, no_more, empty_section, empty_end, empty_else, empty_elif, Body, body, Main, main, file}
+use Rattle.c_grammar.proofs.CompleteDeclarations.{qualified_held}
 use Rattle.c_grammar.proofs.Quiet.{is_quiet, AreQuiet, quiet_both, expr_quiet, function_quiet, change_quiet, clause_quiet, tests_quiet, optional_quiet, type_quiet, qualified_quiet, locals_quiet, declarator_quiet, ending_quiet, vars_quiet, extern_quiet, definition_quiet, redo_quiet, return_quiet}
 
 -- ---- text with no static declaration
@@ -148,6 +148,11 @@ code_found (for p q r z {b} {ts} {us} {vs} {ws} a t d s) = λ secs declaring w.
     let rest : List Declared = statics_in (guards_of secs) s ++ statics_from false false secs w in
     behind_quiet secs false ts (at r signs.Semicolon ∷ (us ++ (vs ++ at z signs.Close ∷ ws))) w rest (clause_quiet a)
     (behind_quiet secs false us (vs ++ at z signs.Close ∷ ws) w rest (tests_quiet t) (behind_quiet secs false vs (at z signs.Close ∷ ws) w rest (clause_quiet d) (code_found s secs false w)))
+code_found (declaring_for p q z {b} {ts} {ds} {us} {vs} {ws} g l t d s) = λ secs declaring w.
+    let rest : List Declared = statics_in (guards_of secs) s ++ statics_from false false secs w in
+    behind_quiet secs false ts (ds ++ (us ++ (vs ++ at z signs.Close ∷ ws))) w rest (qualified_quiet g)
+    (behind_quiet secs false ds (us ++ (vs ++ at z signs.Close ∷ ws)) w rest (locals_quiet l)
+    (behind_quiet secs false us (vs ++ at z signs.Close ∷ ws) w rest (tests_quiet t) (behind_quiet secs false vs (at z signs.Close ∷ ws) w rest (clause_quiet d) (code_found s secs false w))))
 code_found (if_then p q r {b} {ts} {us} e s) = λ secs declaring w. behind_quiet secs false ts (at r signs.Close ∷ us) w (statics_in (guards_of secs) s ++ statics_from false false secs w) (expr_quiet e) (code_found s secs false w)
 code_found (if_else p q r z {b} {ts} {us} {vs} e s t) = λ secs declaring w.
     let ds : List Declared = statics_in (guards_of secs) s in

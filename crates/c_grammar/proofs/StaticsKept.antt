@@ -12,7 +12,7 @@ use Rattle.c_grammar.specs.Groups.{declared, guarded_by, Outermost}
 use Rattle.c_grammar.specs.Statics.{statics_from}
 use Rattle.c_grammar.specs.LocalsOf.{statics_in}
 use Rattle.c_grammar.specs.Kept.{kept_from}
-use Rattle.c_grammar.specs.Grammar.{at, Qualifier, Qualified, with_true, with_false, Vars, Declares, Shape, Listed, Stated, Chained, Locals, Writes, none, more, choice, local, static_local, last_local, next_local, ends, otherwise, elif, change, call, void_call, assert, skip, block, while, for, if_then, if_else, do_while, break, continue, return, has_groups, is_group}
+use Rattle.c_grammar.specs.Grammar.{at, Qualifier, Qualified, with_true, with_false, Vars, Declares, Shape, Listed, Stated, Chained, Locals, Writes, none, more, choice, local, static_local, last_local, next_local, ends, otherwise, elif, change, call, void_call, assert, skip, block, while, for, declaring_for, if_then, if_else, do_while, break, continue, return, has_groups, is_group}
 use Rattle.cpp_groups.specs.declared.section.Section.{Section}
 use Rattle.cpp_groups.specs.declared.section.Section.TheVariants.{Seeking}
 use Rattle.cpp_groups.specs.Kept.{next_group, all_kept, truth}
@@ -151,6 +151,13 @@ code_kept t (for p q r z {b} {ts} {us} {vs} {ws} a m d s) = λ gs secs h w.
     behind_quiet t secs (at p signs.For ∷ at q signs.Open ∷ []) (ts ++ at r signs.Semicolon ∷ (us ++ (vs ++ at z signs.Close ∷ ws))) w rest (refl, (refl, tt))
     (behind_quiet t secs ts (at r signs.Semicolon ∷ (us ++ (vs ++ at z signs.Close ∷ ws))) w rest (clause_quiet a)
     (behind_quiet t secs (at r signs.Semicolon ∷ []) (us ++ (vs ++ at z signs.Close ∷ ws)) w rest (refl, tt)
+    (behind_quiet t secs us (vs ++ at z signs.Close ∷ ws) w rest (tests_quiet m)
+    (behind_quiet t secs vs (at z signs.Close ∷ ws) w rest (clause_quiet d) (behind_quiet t secs (at z signs.Close ∷ []) ws w rest (refl, tt) (code_kept t s gs secs h w))))))
+code_kept t (declaring_for p q z {b} {ts} {ds} {us} {vs} {ws} g l m d s) = λ gs secs h w.
+    let rest : List Declared = kept_declared t (statics_in gs s) ++ kept_statics t secs w in
+    behind_quiet t secs (at p signs.For ∷ at q signs.Open ∷ []) (ts ++ (ds ++ (us ++ (vs ++ at z signs.Close ∷ ws)))) w rest (refl, (refl, tt))
+    (behind_quiet t secs ts (ds ++ (us ++ (vs ++ at z signs.Close ∷ ws))) w rest (qualified_quiet g)
+    (behind_quiet t secs ds (us ++ (vs ++ at z signs.Close ∷ ws)) w rest (locals_quiet l)
     (behind_quiet t secs us (vs ++ at z signs.Close ∷ ws) w rest (tests_quiet m)
     (behind_quiet t secs vs (at z signs.Close ∷ ws) w rest (clause_quiet d) (behind_quiet t secs (at z signs.Close ∷ []) ws w rest (refl, tt) (code_kept t s gs secs h w))))))
 code_kept t (if_then p q r {b} {ts} {us} e s) = λ gs secs h w.

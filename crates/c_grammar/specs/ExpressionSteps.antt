@@ -2,11 +2,11 @@
 use Rattle.std.specs.Prelude.{ℕ, suc, nat_lt, Bool, true, false, List, [], ◌∷◌, Option, Some, None, option_map, if◌then◌else◌}
 use Rattle.c_tree.specs.declared.tree.Op.{Op}
 use Rattle.c_tree.specs.declared.tree.Op.TheVariants.{Add, Sub}
-use Rattle.c_tree.specs.Tree.{Term, Number, Var, Binary, Code, Return, Done, Assign, Input, Assert, If, While, Do, Leave, followed}
+use Rattle.c_tree.specs.Tree.{Term, Number, Var, Binary, Code, Return, Done, Assign, Input, Assert, If, While, Do, Leave, Block, followed}
 use Rattle.c_grammar.specs.declared.items.Sign.{Sign}
 use Rattle.c_grammar.specs.declared.items.Sign.TheVariants as signs
 use Rattle.c_grammar.specs.Grammar.{tighter, Prefix, Positive, Negative, Inverse, applied, updated}
-use Rattle.c_grammar.specs.States.{Frame, Paren, Pre, Left, Stack, Top, Braces, Yes, No, ThenOf, ElseOf, LoopOf, DoOf, Onward, InList, AtTest, Site, AsStatement, AsStart, AsStep, Use, ToAssign, ToInitialise, ToUpdate, ToAssert, ToChoose, ToLoop, ToRepeat, ToRedo, ToReturn, OfStatement, OfLocal, ReadingState, Ready, NextLocal, Ended, Wants, Has, TestComes, StepComes, CallOpens, Finishing}
+use Rattle.c_grammar.specs.States.{Frame, Paren, Pre, Left, Stack, Top, Braces, Yes, No, ThenOf, ElseOf, LoopOf, DoOf, Start, ChangeStart, DeclaredStart, Onward, InList, AtTest, Scope, ListScope, ForScope, Site, AsStatement, AsStart, AsStep, Use, ToAssign, ToInitialise, ToUpdate, ToAssert, ToChoose, ToLoop, ToRepeat, ToRedo, ToReturn, OfStatement, OfLocal, ReadingState, Ready, NextLocal, Ended, Wants, Has, TestComes, StepComes, CallOpens, Finishing}
 
 -- ---- what is open
 
@@ -21,7 +21,7 @@ is_in_loop (ElseOf p e first outer) = is_in_loop outer
 is_in_loop (LoopOf start p e advance outer) = true
 is_in_loop (DoOf p outer) = true
 
--- what a declarator makes is put into its list: declarations stand in lists alone
+-- what a declarator makes is put into its list: declarations stand in lists, or in a `for`
 abbrev pub folded : Stack → Code → Stack
 folded (Top ds made) c = Top ds (followed made c)
 folded (Braces p made outer) c = Braces p (followed made c) outer
@@ -32,6 +32,20 @@ folded (ElseOf p e first outer) c = ElseOf p e first outer
 folded (LoopOf start p e advance outer) c = LoopOf start p e advance outer
 folded (DoOf p outer) c = DoOf p outer
 
+abbrev pub with_declarator : Scope → Code → Scope
+with_declarator (ListScope outer) c = ListScope (folded outer c)
+with_declarator (ForScope p made outer) c = ForScope p (followed made c) outer
+
+-- behind the semicolon of a declaration a statement may begin, and in a `for` the test comes
+abbrev pub behind_declaration : Scope → ReadingState
+behind_declaration (ListScope outer) = Ready outer
+behind_declaration (ForScope p made outer) = TestComes (DeclaredStart p made) outer
+
+-- a loop behind what stands before its first test
+abbrev pub started_by : Start → Code → Code
+started_by (ChangeStart c) loop = followed c loop
+started_by (DeclaredStart p c) loop = Block p (followed c loop) Done
+
 -- a statement is put where it belongs, and no `else` comes
 abbrev pub placed : Stack → Code → Onward
 placed (Top ds made) c = InList (Top ds (followed made c))
@@ -40,7 +54,7 @@ placed (Yes links n made outer) c = InList (Yes links n (followed made c) outer)
 placed (No links n first made outer) c = InList (No links n first (followed made c) outer)
 placed (ThenOf p e outer) c = placed outer (If p e c Done Done)
 placed (ElseOf p e first outer) c = placed outer (If p e first c Done)
-placed (LoopOf start p e advance outer) c = placed outer (followed start (While p e advance c Done))
+placed (LoopOf start p e advance outer) c = placed outer (started_by start (While p e advance c Done))
 placed (DoOf p outer) c = AtTest p c outer
 
 -- ---- expressions
@@ -61,7 +75,7 @@ prefix_of _ = None
 -- body of a `for` does
 abbrev pub ended_change : Site → Code → Option ReadingState
 ended_change (AsStatement outer) c = Some (Ended outer c)
-ended_change (AsStart outer) c = Some (TestComes c outer)
+ended_change (AsStart outer) c = Some (TestComes (ChangeStart c) outer)
 ended_change (AsStep start p e outer) c = None
 
 abbrev pub closed_change : Site → Code → Option ReadingState
@@ -71,7 +85,7 @@ closed_change (AsStep start p e outer) c = Some (Ready (LoopOf start p e c outer
 
 abbrev pub input_of : List Frame → Use → Option ReadingState
 input_of [] (ToAssign p x site) = Some (CallOpens (OfStatement site (Input p x Done)))
-input_of [] (ToInitialise kind p x outer) = Some (CallOpens (OfLocal kind outer (Input p x Done)))
+input_of [] (ToInitialise kind p x scope) = Some (CallOpens (OfLocal kind scope (Input p x Done)))
 input_of _ _ = None
 
 abbrev pub want : List Frame → Use → Sign → Option ReadingState
@@ -86,11 +100,11 @@ want fs u _ = None
 
 abbrev pub tested : Use → Term → Option ReadingState
 tested (ToAssign p x site) e = closed_change site (Assign p x e Done)
-tested (ToInitialise kind p x outer) e = None
+tested (ToInitialise kind p x scope) e = None
 tested (ToUpdate p x u site) e = closed_change site (updated p x u e)
 tested (ToAssert p outer) e = Some (Finishing (OfStatement (AsStatement outer) (Assert p e Done)))
 tested (ToChoose p outer) e = Some (Ready (ThenOf p e outer))
-tested (ToLoop p outer) e = Some (Ready (LoopOf Done p e Done outer))
+tested (ToLoop p outer) e = Some (Ready (LoopOf (ChangeStart Done) p e Done outer))
 tested (ToRepeat start p outer) e = None
 tested (ToRedo p c q outer) e = Some (Finishing (OfStatement (AsStatement outer) (Do p c q e Done)))
 tested (ToReturn p outer) e = None
@@ -103,7 +117,7 @@ closed_by (Left op a ∷ fs) u e = None
 
 abbrev pub assigned : Use → Term → Option ReadingState
 assigned (ToAssign p x site) e = ended_change site (Assign p x e Done)
-assigned (ToInitialise kind p x outer) e = Some (Ready (folded outer (Assign p x e Done)))
+assigned (ToInitialise kind p x scope) e = Some (behind_declaration (with_declarator scope (Assign p x e Done)))
 assigned (ToUpdate p x u site) e = ended_change site (updated p x u e)
 assigned (ToAssert p outer) e = None
 assigned (ToChoose p outer) e = None
@@ -118,7 +132,7 @@ ended_by (f ∷ fs) u e = None
 
 -- another declarator comes
 abbrev pub initialised : Use → Term → Option ReadingState
-initialised (ToInitialise kind p x outer) e = Some (NextLocal kind (folded outer (Assign p x e Done)))
+initialised (ToInitialise kind p x scope) e = Some (NextLocal kind (with_declarator scope (Assign p x e Done)))
 initialised (ToAssign p x site) e = None
 initialised (ToUpdate p x u site) e = None
 initialised (ToAssert p outer) e = None

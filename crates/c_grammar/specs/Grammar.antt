@@ -237,7 +237,8 @@ pub data Shape : Type 0 where
 -- a statement is a list of one, and a `for` a list of its loop, behind the change before the first test; an absent `else` is the
 -- empty list; `#elif` opens a choice in the no side; a declaration is a list of a statement for each of its declarators,
 -- and a static one leaves no statement (6.2.4p3): its variables have their values from the start. `break` and `continue` stand in
--- the body of a loop (6.8.6.2 and 6.8.6.3), and the test of a `do` (6.8.5.2) has the place of its first token
+-- the body of a loop (6.8.6.2 and 6.8.6.3), and the test of a `do` (6.8.5.2) has the place of its first token. A `for` that declares
+-- variables, each with an initialiser, as constants have one, is a block at its place around the declaration and the loop (6.8.5p5)
 pub data Writes : Shape → List Item → Code → Type 0 where
   none : {i : Bool} → Writes (Listed i) [] Done
   more : {b : Bool} {ts us : List Item} {c d : Code} {i : Bool} → Writes (Stated i b) ts c → Writes (Listed i) us d → Writes (Listed i) (ts ++ us) (followed c d)
@@ -257,6 +258,7 @@ pub data Writes : Shape → List Item → Code → Type 0 where
   block : (p q : Place) {ts : List Item} {c : Code} {i : Bool} → Writes (Listed i) ts c → Writes (Stated i false) (at p signs.LeftBrace ∷ (ts ++ at q signs.RightBrace ∷ [])) (Block p c Done)
   while : (p q r : Place) {b : Bool} {ts us : List Item} {e : Term} {c : Code} {i : Bool} → Expresses 6 ts e → Writes (Stated true b) us c → Writes (Stated i b) (at p signs.While ∷ at q signs.Open ∷ (ts ++ at r signs.Close ∷ us)) (While p e Done c Done)
   for : (p q r s : Place) {b : Bool} {ts us vs ws : List Item} {start step c : Code} {t : Place} {e : Term} {i : Bool} → Clause ts start → Tests us t e → Clause vs step → Writes (Stated true b) ws c → Writes (Stated i b) (at p signs.For ∷ at q signs.Open ∷ (ts ++ at r signs.Semicolon ∷ (us ++ (vs ++ at s signs.Close ∷ ws)))) (followed start (While t e step c Done))
+  declaring_for : (p q s : Place) {b : Bool} {ts ds us vs ws : List Item} {start step c : Code} {t : Place} {e : Term} {kind : Qualifier} {i : Bool} → Qualified kind ts → Writes (Locals Constant) ds start → Tests us t e → Clause vs step → Writes (Stated true b) ws c → Writes (Stated i b) (at p signs.For ∷ at q signs.Open ∷ (ts ++ (ds ++ (us ++ (vs ++ at s signs.Close ∷ ws))))) (Block p (followed start (While t e step c Done)) Done)
   if_then : (p q r : Place) {b : Bool} {ts us : List Item} {e : Term} {c : Code} {i : Bool} → Expresses 6 ts e → Writes (Stated i b) us c → Writes (Stated i true) (at p signs.If ∷ at q signs.Open ∷ (ts ++ at r signs.Close ∷ us)) (If p e c Done Done)
   if_else : (p q r s : Place) {b : Bool} {ts us vs : List Item} {e : Term} {c d : Code} {i : Bool} → Expresses 6 ts e → Writes (Stated i false) us c → Writes (Stated i b) vs d → Writes (Stated i b) (at p signs.If ∷ at q signs.Open ∷ (ts ++ at r signs.Close ∷ (us ++ at s signs.Else ∷ vs))) (If p e c d Done)
   do_while : (p q r s t : Place) {b : Bool} {ts us : List Item} {x : Item} {e : Term} {c : Code} {i : Bool} → Writes (Stated true b) ts c → Expresses 6 (x ∷ us) e → Writes (Stated i false) (at p signs.Do ∷ (ts ++ at q signs.While ∷ at r signs.Open ∷ x ∷ (us ++ at s signs.Close ∷ at t signs.Semicolon ∷ []))) (Do p c x.place e Done)

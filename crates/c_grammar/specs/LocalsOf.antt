@@ -7,7 +7,7 @@ use Rattle.fam_outer.specs.declared.faults.Place.{Place}
 use Rattle.c_grammar.specs.declared.items.Item.{Item}
 use Rattle.c_grammar.specs.Groups.{guarded_by}
 use Rattle.c_grammar.specs.Statics.{statics_by}
-use Rattle.c_grammar.specs.Grammar.{Qualifier, Unqualified, Constant, Counted, LocalDeclarator, uninitialised, initialised, from_call, Shape, Writes, more, choice, local, static_local, last_local, next_local, otherwise, elif, block, while, for, if_then, if_else, do_while, with_true, with_false, declared, Body, body, Main, main, File, Forms, file}
+use Rattle.c_grammar.specs.Grammar.{Qualifier, Unqualified, Constant, Counted, LocalDeclarator, uninitialised, initialised, from_call, Shape, Writes, more, choice, local, static_local, last_local, next_local, otherwise, elif, block, while, for, declaring_for, if_then, if_else, do_while, with_true, with_false, declared, Body, body, Main, main, File, Forms, file}
 
 abbrev pub local_name : {kind : Qualifier} {ts : List Item} {c : Code} → LocalDeclarator kind ts c → ℕ
 local_name (uninitialised p x) = x
@@ -31,6 +31,7 @@ locals_in gs (elif p n s t) = locals_in (with_true gs n) s ++ locals_in (with_fa
 locals_in gs (block p q s) = locals_in gs s
 locals_in gs (while p q r e s) = locals_in gs s
 locals_in gs (for p q r z a t b s) = locals_in gs s
+locals_in gs (declaring_for p q r k d t b s) = locals_in gs d ++ locals_in gs s
 locals_in gs (if_then p q r e s) = locals_in gs s
 locals_in gs (if_else p q r z e s t) = locals_in gs s ++ locals_in gs t
 locals_in gs (do_while p q r z t s e) = locals_in gs s
@@ -47,6 +48,7 @@ statics_in gs (elif p n s t) = statics_in (with_true gs n) s ++ statics_in (with
 statics_in gs (block p q s) = statics_in gs s
 statics_in gs (while p q r e s) = statics_in gs s
 statics_in gs (for p q r z a t b s) = statics_in gs s
+statics_in gs (declaring_for p q r k d t b s) = statics_in gs s
 statics_in gs (if_then p q r e s) = statics_in gs s
 statics_in gs (if_else p q r z e s t) = statics_in gs s ++ statics_in gs t
 statics_in gs (do_while p q r z t s e) = statics_in gs s

@@ -7,9 +7,9 @@ use Rattle.c_grammar.specs.declared.items.Sign.TheVariants as signs
 use Rattle.c_grammar.specs.declared.items.Item.{Item}
 pub use Rattle.c_grammar.specs.Groups.{Sections, Outermost, InPart, InLast, guards_of}
 use Rattle.c_grammar.specs.Grammar.{File}
-pub use Rattle.c_grammar.specs.States.{Frame, Paren, Pre, Left, room, Stack, Top, Braces, Yes, No, ThenOf, ElseOf, LoopOf, DoOf, Onward, InList, AtTest, Site, AsStatement, AsStart, AsStep, Use, ToAssign, ToInitialise, ToUpdate, ToAssert, ToChoose, ToLoop, ToRepeat, ToRedo, ToReturn, Pending, OfStatement, OfLocal, Leading, NoWord, StaticWord, ExternWord, ConstWord, TypeWords, OneInt, OneSigned, WholeType, StaticPart, BehindStatic, BehindStaticConst, BehindStaticType, BeforeStaticName, BehindStaticName, BehindStaticEquals, BehindStaticMinus, BehindStaticNumber, Aim, ToPrototype, ToMain, Tailing, Another, Final, ReadingState, Outside, AfterStatic, AfterExtern, AfterConst, AfterEnum, AfterVoidType, AfterType, Declaring, Bare, Starting, Negating, Started, Listing, Enumerated, AfterDefine, Defining, NegativeDefining, Enclosing, NegativeEnclosing, Enclosed, Parameters, InParameters, AfterVoid, AfterParameters, Ready, LocalConst, LocalType, NextLocal, LocalNamed, InStatic, Ended, Wants, Has, Counting, Named, Opens, ForOpens, StartComes, TestComes, StepComes, RedoOpens, RedoComes, VoidComes, VoidCloses, CallComes, CallOpens, CallCloses, Finishing, Over}
-pub use Rattle.c_grammar.specs.ExpressionSteps.{is_in_loop, folded, placed, settle, prefix_of, ended_change, closed_change, input_of, want, tested, closed_by, assigned, ended_by, initialised, followed_by, have}
-pub use Rattle.c_grammar.specs.StatementSteps.{at_open, at_close, at_semicolon, at_while, at_void, at_function, at_void_function, else_of, linked, opened, braced, leaving, next_part, last_part, group_end, in_list, begin, proceed, on, named, counting, changing, start_comes, test_comes, step_comes, redo_comes, local_end, const_word, next_local, behind_local_type, local_type, without_initialiser, local_named, finishing, static_word, behind_static_word, static_name, behind_static_type, static_type, static_end, static_bare, static_named, static_value, static_negative, static_step}
+pub use Rattle.c_grammar.specs.States.{Frame, Paren, Pre, Left, room, Stack, Top, Braces, Yes, No, ThenOf, ElseOf, LoopOf, DoOf, Start, ChangeStart, DeclaredStart, Onward, InList, AtTest, Scope, ListScope, ForScope, Site, AsStatement, AsStart, AsStep, Use, ToAssign, ToInitialise, ToUpdate, ToAssert, ToChoose, ToLoop, ToRepeat, ToRedo, ToReturn, Pending, OfStatement, OfLocal, Leading, NoWord, StaticWord, ExternWord, ConstWord, TypeWords, OneInt, OneSigned, WholeType, StaticPart, BehindStatic, BehindStaticConst, BehindStaticType, BeforeStaticName, BehindStaticName, BehindStaticEquals, BehindStaticMinus, BehindStaticNumber, Aim, ToPrototype, ToMain, Tailing, Another, Final, ReadingState, Outside, AfterStatic, AfterExtern, AfterConst, AfterEnum, AfterVoidType, AfterType, Declaring, Bare, Starting, Negating, Started, Listing, Enumerated, AfterDefine, Defining, NegativeDefining, Enclosing, NegativeEnclosing, Enclosed, Parameters, InParameters, AfterVoid, AfterParameters, Ready, LocalConst, LocalType, NextLocal, LocalNamed, InStatic, Ended, Wants, Has, Counting, Named, Opens, ForOpens, StartComes, TestComes, StepComes, RedoOpens, RedoComes, VoidComes, VoidCloses, CallComes, CallOpens, CallCloses, Finishing, Over}
+pub use Rattle.c_grammar.specs.ExpressionSteps.{is_in_loop, folded, with_declarator, behind_declaration, started_by, placed, settle, prefix_of, ended_change, closed_change, input_of, want, tested, closed_by, assigned, ended_by, initialised, followed_by, have}
+pub use Rattle.c_grammar.specs.StatementSteps.{at_open, at_close, at_semicolon, at_while, at_void, at_function, at_void_function, else_of, linked, opened, braced, leaving, next_part, last_part, group_end, in_list, begin, proceed, on, named, counting, changing, start_comes, test_comes, step_comes, redo_comes, local_end, const_word, initialising, next_local, behind_local_type, local_type, without_initialiser, local_named, finishing, static_word, behind_static_word, static_name, behind_static_type, static_type, static_end, static_bare, static_named, static_value, static_negative, static_step}
 pub use Rattle.c_grammar.specs.DeclarationSteps.{next_condition, last_section, section_end, first_word, outside, behind_extern, behind_static, after_enum, declaring, qualifying, main_of, naming, behind_type, after_type, with_declared, listed, declaration_end, enumeration_end, started, listing, counts_on, without_value, is_bare, starting, negating, after_define, defined_as, defining, negative_defining, enclosing, negative_enclosing, in_parameters, after_parameters}
 
 -- ---- the end of a file
@@ -50,10 +50,10 @@ step (InParameters aim) p s = in_parameters aim s
 step (AfterVoid aim) p s = at_close (AfterParameters aim) s
 step (AfterParameters aim) p s = after_parameters aim s
 step (Ready outer) p s = begin outer p s
-step (LocalConst outer) p s = const_word outer s
-step (LocalType kind words outer) p s = local_type kind outer p s words
-step (NextLocal kind outer) p s = next_local kind outer p s
-step (LocalNamed kind q x outer) p s = local_named kind q x outer s
+step (LocalConst scope) p s = const_word scope s
+step (LocalType kind words scope) p s = local_type kind scope p s words
+step (NextLocal kind scope) p s = next_local kind scope p s
+step (LocalNamed kind q x scope) p s = local_named kind q x scope s
 step (InStatic part outer) p s = static_step part outer s
 step (Ended outer c) p s = on outer c p s
 step (Wants fs u) p s = want fs u s
@@ -61,8 +61,8 @@ step (Has fs u e) p s = have fs u e s
 step (Counting q u site) p s = counting q u site s
 step (Named q x site) p s = named q x site s
 step (Opens u) p s = at_open (Wants [] u) s
-step (ForOpens outer) p s = at_open (StartComes outer) s
-step (StartComes outer) p s = start_comes outer p s
+step (ForOpens q outer) p s = at_open (StartComes q outer) s
+step (StartComes q outer) p s = start_comes q outer p s
 step (TestComes start outer) p s = test_comes start outer p s
 step (StepComes start q e outer) p s = step_comes start q e outer p s
 step (RedoOpens q c outer) p s = at_open (RedoComes q c outer) s

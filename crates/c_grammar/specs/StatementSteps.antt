@@ -2,12 +2,12 @@
 use Rattle.std.specs.Prelude.{ℕ, pos, Bool, true, false, List, [], ◌∷◌, Option, Some, None}
 use Rattle.fam_outer.specs.declared.faults.Place.{Place}
 use Rattle.c_tree.specs.declared.tree.Op.TheVariants.{Sub}
-use Rattle.c_tree.specs.Tree.{Term, Number, Code, Break, Continue, Done, Input, If, While, Leave, Block, Skip, Cond, followed}
+use Rattle.c_tree.specs.Tree.{Term, Number, Code, Break, Continue, Done, Input, If, While, Leave, Block, Skip, Cond}
 use Rattle.c_grammar.specs.declared.items.Sign.{Sign}
 use Rattle.c_grammar.specs.declared.items.Sign.TheVariants as signs
 use Rattle.c_grammar.specs.Grammar.{Sum, Difference, Product, Quotient, Remainder, Count, Raise, Lower, changed_by_one, Qualifier, Unqualified, Constant, file_of}
-use Rattle.c_grammar.specs.States.{Stack, Top, Braces, Yes, No, ThenOf, ElseOf, LoopOf, DoOf, Onward, InList, AtTest, Site, AsStatement, AsStart, AsStep, ToAssign, ToInitialise, ToUpdate, ToAssert, ToChoose, ToLoop, ToRepeat, ToRedo, ToReturn, Pending, OfStatement, OfLocal, TypeWords, OneInt, OneSigned, WholeType, StaticPart, BehindStatic, BehindStaticConst, BehindStaticType, BeforeStaticName, BehindStaticName, BehindStaticEquals, BehindStaticMinus, BehindStaticNumber, ReadingState, Ready, LocalConst, LocalType, NextLocal, LocalNamed, InStatic, Ended, Wants, Counting, Named, Opens, ForOpens, TestComes, StepComes, RedoOpens, VoidComes, CallOpens, Finishing, Over}
-use Rattle.c_grammar.specs.ExpressionSteps.{is_in_loop, folded, placed, ended_change, closed_change, want}
+use Rattle.c_grammar.specs.States.{Stack, Top, Braces, Yes, No, ThenOf, ElseOf, LoopOf, DoOf, Start, ChangeStart, Onward, InList, AtTest, Scope, ListScope, ForScope, Site, AsStatement, AsStart, AsStep, ToAssign, ToInitialise, ToUpdate, ToAssert, ToChoose, ToLoop, ToRepeat, ToRedo, ToReturn, Pending, OfStatement, OfLocal, TypeWords, OneInt, OneSigned, WholeType, StaticPart, BehindStatic, BehindStaticConst, BehindStaticType, BeforeStaticName, BehindStaticName, BehindStaticEquals, BehindStaticMinus, BehindStaticNumber, ReadingState, Ready, LocalConst, LocalType, NextLocal, LocalNamed, InStatic, Ended, Wants, Counting, Named, Opens, ForOpens, TestComes, StepComes, RedoOpens, VoidComes, CallOpens, Finishing, Over}
+use Rattle.c_grammar.specs.ExpressionSteps.{is_in_loop, with_declarator, behind_declaration, started_by, placed, ended_change, closed_change, want}
 
 -- the state, where it is this sign
 abbrev pub at_open : ReadingState → Sign → Option ReadingState
@@ -51,7 +51,7 @@ else_of (Yes links n made outer) c = None
 else_of (No links n first made outer) c = None
 else_of (ThenOf p e outer) c = Some (Ready (ElseOf p e c outer))
 else_of (ElseOf p e first outer) c = else_of outer (If p e first c Done)
-else_of (LoopOf start p e advance outer) c = else_of outer (followed start (While p e advance c Done))
+else_of (LoopOf start p e advance outer) c = else_of outer (started_by start (While p e advance c Done))
 else_of (DoOf p outer) c = None
 
 -- the earlier parts of a group around its later ones
@@ -92,7 +92,7 @@ group_end (Yes links n made outer) = Some (Ended outer (linked links (Cond n mad
 group_end (No links n first made outer) = Some (Ended outer (linked links (Cond n first made Done)))
 group_end _ = None
 
--- a declaration stands in a list
+-- a declaration as a statement stands in a list
 abbrev pub in_list : Stack → ReadingState → Option ReadingState
 in_list (Top ds made) next = Some next
 in_list (Braces p made outer) next = Some next
@@ -106,10 +106,10 @@ in_list (DoOf p outer) next = None
 abbrev pub begin : Stack → Place → Sign → Option ReadingState
 begin outer p (signs.Name x) = Some (Named p x (AsStatement outer))
 begin outer p signs.Static = in_list outer (InStatic BehindStatic outer)
-begin outer p signs.Const = in_list outer (LocalConst outer)
-begin outer p signs.Int = in_list outer (LocalType Unqualified OneInt outer)
-begin outer p signs.Int32 = in_list outer (LocalType Unqualified WholeType outer)
-begin outer p signs.Signed = in_list outer (LocalType Unqualified OneSigned outer)
+begin outer p signs.Const = in_list outer (LocalConst (ListScope outer))
+begin outer p signs.Int = in_list outer (LocalType Unqualified OneInt (ListScope outer))
+begin outer p signs.Int32 = in_list outer (LocalType Unqualified WholeType (ListScope outer))
+begin outer p signs.Signed = in_list outer (LocalType Unqualified OneSigned (ListScope outer))
 begin outer p signs.Input = Some (CallOpens (OfStatement (AsStatement outer) (Skip p Done)))
 begin outer p (signs.Function k) = Some (CallOpens (OfStatement (AsStatement outer) (Skip p Done)))
 begin outer p signs.Open = Some (VoidComes p outer)
@@ -121,7 +121,7 @@ begin outer p signs.RightBrace = braced outer p
 begin outer p signs.Assert = Some (Opens (ToAssert p outer))
 begin outer p signs.If = Some (Opens (ToChoose p outer))
 begin outer p signs.While = Some (Opens (ToLoop p outer))
-begin outer p signs.For = Some (ForOpens outer)
+begin outer p signs.For = Some (ForOpens p outer)
 begin outer p signs.Do = Some (Ready (DoOf p outer))
 begin outer p signs.Break = leaving (is_in_loop outer) outer (Leave p Break Done)
 begin outer p signs.Continue = leaving (is_in_loop outer) outer (Leave p Continue Done)
@@ -164,17 +164,21 @@ changing site p signs.MinusMinus = Some (Counting p Lower site)
 changing site p _ = None
 
 -- what stands before the first test of a `for`, or nothing does
-abbrev pub start_comes : Stack → Place → Sign → Option ReadingState
-start_comes outer p signs.Semicolon = Some (TestComes Done outer)
-start_comes outer p s = changing (AsStart outer) p s
+abbrev pub start_comes : Place → Stack → Place → Sign → Option ReadingState
+start_comes p outer q signs.Semicolon = Some (TestComes (ChangeStart Done) outer)
+start_comes p outer q signs.Const = Some (LocalConst (ForScope p Done outer))
+start_comes p outer q signs.Int = Some (LocalType Unqualified OneInt (ForScope p Done outer))
+start_comes p outer q signs.Int32 = Some (LocalType Unqualified WholeType (ForScope p Done outer))
+start_comes p outer q signs.Signed = Some (LocalType Unqualified OneSigned (ForScope p Done outer))
+start_comes p outer q s = changing (AsStart outer) q s
 
 -- the test of a `for`, or none: the loop has the place of what comes
-abbrev pub test_comes : Code → Stack → Place → Sign → Option ReadingState
+abbrev pub test_comes : Start → Stack → Place → Sign → Option ReadingState
 test_comes start outer p signs.Semicolon = Some (StepComes start p (Number (pos 1)) outer)
 test_comes start outer p s = want [] (ToRepeat start p outer) s
 
 -- what stands behind the test of a `for`, or nothing does
-abbrev pub step_comes : Code → Place → Term → Stack → Place → Sign → Option ReadingState
+abbrev pub step_comes : Start → Place → Term → Stack → Place → Sign → Option ReadingState
 step_comes start p e outer q signs.Close = Some (Ready (LoopOf start p e Done outer))
 step_comes start p e outer q s = changing (AsStep start p e outer) q s
 
@@ -185,49 +189,54 @@ redo_comes p c outer q s = want [] (ToRedo p c q outer) s
 -- ---- declarations in `main`
 
 -- the end of a declarator in `main`
-abbrev pub local_end : Qualifier → Stack → Code → Sign → Option ReadingState
-local_end kind outer c signs.Semicolon = Some (Ready (folded outer c))
-local_end kind outer c signs.Comma = Some (NextLocal kind (folded outer c))
-local_end kind outer c _ = None
+abbrev pub local_end : Qualifier → Scope → Code → Sign → Option ReadingState
+local_end kind scope c signs.Semicolon = Some (behind_declaration (with_declarator scope c))
+local_end kind scope c signs.Comma = Some (NextLocal kind (with_declarator scope c))
+local_end kind scope c _ = None
 
 -- the first word of the type of a constant
-abbrev pub const_word : Stack → Sign → Option ReadingState
-const_word outer signs.Int = Some (LocalType Constant OneInt outer)
-const_word outer signs.Int32 = Some (LocalType Constant WholeType outer)
-const_word outer signs.Signed = Some (LocalType Constant OneSigned outer)
-const_word outer _ = None
+abbrev pub const_word : Scope → Sign → Option ReadingState
+const_word scope signs.Int = Some (LocalType Constant OneInt scope)
+const_word scope signs.Int32 = Some (LocalType Constant WholeType scope)
+const_word scope signs.Signed = Some (LocalType Constant OneSigned scope)
+const_word scope _ = None
+
+-- what a `for` declares has an initialiser, as a constant has one
+abbrev pub initialising : Scope → Qualifier → Qualifier
+initialising (ListScope outer) kind = kind
+initialising (ForScope p made outer) kind = Constant
 
 -- the name of a variable or a constant
-abbrev pub next_local : Qualifier → Stack → Place → Sign → Option ReadingState
-next_local kind outer p (signs.Name x) = Some (LocalNamed kind p x outer)
-next_local kind outer p _ = None
+abbrev pub next_local : Qualifier → Scope → Place → Sign → Option ReadingState
+next_local kind scope p (signs.Name x) = Some (LocalNamed (initialising scope kind) p x scope)
+next_local kind scope p _ = None
 
 -- `const` behind the type, or a name
-abbrev pub behind_local_type : Qualifier → Stack → Place → Sign → Option ReadingState
-behind_local_type Unqualified outer p signs.Const = Some (NextLocal Constant outer)
-behind_local_type kind outer p s = next_local kind outer p s
+abbrev pub behind_local_type : Qualifier → Scope → Place → Sign → Option ReadingState
+behind_local_type Unqualified scope p signs.Const = Some (NextLocal Constant scope)
+behind_local_type kind scope p s = next_local kind scope p s
 
 -- another word of the type, or what follows it
-abbrev pub local_type : Qualifier → Stack → Place → Sign → TypeWords → Option ReadingState
-local_type kind outer p signs.Signed OneInt = Some (LocalType kind WholeType outer)
-local_type kind outer p signs.Int OneSigned = Some (LocalType kind WholeType outer)
-local_type kind outer p s words = behind_local_type kind outer p s
+abbrev pub local_type : Qualifier → Scope → Place → Sign → TypeWords → Option ReadingState
+local_type kind scope p signs.Signed OneInt = Some (LocalType kind WholeType scope)
+local_type kind scope p signs.Int OneSigned = Some (LocalType kind WholeType scope)
+local_type kind scope p s words = behind_local_type kind scope p s
 
 -- without an initialiser a variable has any value; a constant has one
-abbrev pub without_initialiser : Qualifier → Place → ℕ → Stack → Sign → Option ReadingState
-without_initialiser Unqualified p x outer s = local_end Unqualified outer (Input p x Done) s
-without_initialiser kind p x outer s = None
+abbrev pub without_initialiser : Qualifier → Place → ℕ → Scope → Sign → Option ReadingState
+without_initialiser Unqualified p x scope s = local_end Unqualified scope (Input p x Done) s
+without_initialiser kind p x scope s = None
 
-abbrev pub local_named : Qualifier → Place → ℕ → Stack → Sign → Option ReadingState
-local_named kind p x outer signs.Equals = Some (Wants [] (ToInitialise kind p x outer))
-local_named kind p x outer s = without_initialiser kind p x outer s
+abbrev pub local_named : Qualifier → Place → ℕ → Scope → Sign → Option ReadingState
+local_named kind p x scope signs.Equals = Some (Wants [] (ToInitialise kind p x scope))
+local_named kind p x scope s = without_initialiser kind p x scope s
 
 -- the end of a statement or of a declarator
 abbrev pub finishing : Pending → Sign → Option ReadingState
 finishing (OfStatement site c) signs.Semicolon = ended_change site c
 finishing (OfStatement site c) signs.Close = closed_change site c
 finishing (OfStatement site c) s = None
-finishing (OfLocal kind outer c) s = local_end kind outer c s
+finishing (OfLocal kind scope c) s = local_end kind scope c s
 
 -- ---- static declarations in `main`
 

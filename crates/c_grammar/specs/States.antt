@@ -20,6 +20,11 @@ room (Paren ∷ fs) = 6
 room (Pre u ∷ fs) = 0
 room (Left op a ∷ fs) = tighter op
 
+-- what a `for` does before its first test: a change of a variable, or nothing; or it declares variables, and is a block at this place
+pub data Start : Type 0 where
+  ChangeStart : (c : Code) → Start
+  DeclaredStart : (p : Place) (c : Code) → Start
+
 -- the statements that are open, the innermost first; a list has the statements that it has so far, and the outermost one,
 -- that of `main`, the declarators before it; a loop has what stands before its first test, and its step; of a `do` the body is read
 pub data Stack : Type 0 where
@@ -29,7 +34,7 @@ pub data Stack : Type 0 where
   No : (links : List (ℕ × Code)) (n : ℕ) (first : Code) (made : Code) (outer : Stack) → Stack
   ThenOf : (p : Place) (e : Term) (outer : Stack) → Stack
   ElseOf : (p : Place) (e : Term) (first : Code) (outer : Stack) → Stack
-  LoopOf : (start : Code) (p : Place) (e : Term) (advance : Code) (outer : Stack) → Stack
+  LoopOf : (start : Start) (p : Place) (e : Term) (advance : Code) (outer : Stack) → Stack
   DoOf : (p : Place) (outer : Stack) → Stack
 
 -- what comes behind a statement, where no `else` does: more of a list; or the test of a `do`, behind its body
@@ -37,29 +42,34 @@ pub data Onward : Type 0 where
   InList : (outer : Stack) → Onward
   AtTest : (p : Place) (c : Code) (outer : Stack) → Onward
 
+-- what a declaration in `main` stands in: a list; or the parentheses of a `for` at this place, with its declarators so far
+pub data Scope : Type 0 where
+  ListScope : (outer : Stack) → Scope
+  ForScope : (p : Place) (made : Code) (outer : Stack) → Scope
+
 -- where a change of a variable stands: as a statement; before the first test of a `for`; behind its test
 pub data Site : Type 0 where
   AsStatement : (outer : Stack) → Site
   AsStart : (outer : Stack) → Site
-  AsStep : (start : Code) (p : Place) (e : Term) (outer : Stack) → Site
+  AsStep : (start : Start) (p : Place) (e : Term) (outer : Stack) → Site
 
 -- what an expression is for; the initialiser of a variable that `main` declares has what its declaration declares, and the test
 -- of a `for` what stands before it; that of a `do` has its body, and its own place
 pub data Use : Type 0 where
   ToAssign : (p : Place) (x : ℕ) (site : Site) → Use
-  ToInitialise : (kind : Qualifier) (p : Place) (x : ℕ) (outer : Stack) → Use
+  ToInitialise : (kind : Qualifier) (p : Place) (x : ℕ) (scope : Scope) → Use
   ToUpdate : (p : Place) (x : ℕ) (u : Update) (site : Site) → Use
   ToAssert : (p : Place) (outer : Stack) → Use
   ToChoose : (p : Place) (outer : Stack) → Use
   ToLoop : (p : Place) (outer : Stack) → Use
-  ToRepeat : (start : Code) (p : Place) (outer : Stack) → Use
+  ToRepeat : (start : Start) (p : Place) (outer : Stack) → Use
   ToRedo : (p : Place) (c : Code) (q : Place) (outer : Stack) → Use
   ToReturn : (p : Place) (outer : Stack) → Use
 
 -- what is read but for its end: a statement, which may be a change in a `for`, or a declarator in `main`
 pub data Pending : Type 0 where
   OfStatement : (site : Site) (c : Code) → Pending
-  OfLocal : (kind : Qualifier) (outer : Stack) (c : Code) → Pending
+  OfLocal : (kind : Qualifier) (scope : Scope) (c : Code) → Pending
 
 -- what stands before the type of a declaration
 pub data Leading : Type 0 where
@@ -130,10 +140,10 @@ pub data ReadingState : Type 0 where
   -- a statement may begin
   Ready : (outer : Stack) → ReadingState
   -- a declaration in `main`: behind `const`; behind words of its type; a declarator comes; behind its name
-  LocalConst : (outer : Stack) → ReadingState
-  LocalType : (kind : Qualifier) (words : TypeWords) (outer : Stack) → ReadingState
-  NextLocal : (kind : Qualifier) (outer : Stack) → ReadingState
-  LocalNamed : (kind : Qualifier) (p : Place) (x : ℕ) (outer : Stack) → ReadingState
+  LocalConst : (scope : Scope) → ReadingState
+  LocalType : (kind : Qualifier) (words : TypeWords) (scope : Scope) → ReadingState
+  NextLocal : (kind : Qualifier) (scope : Scope) → ReadingState
+  LocalNamed : (kind : Qualifier) (p : Place) (x : ℕ) (scope : Scope) → ReadingState
   -- a static declaration in `main`, which leaves no statement
   InStatic : (part : StaticPart) (outer : Stack) → ReadingState
   -- a statement has ended; an `else` may come
@@ -145,10 +155,10 @@ pub data ReadingState : Type 0 where
   Named : (p : Place) (x : ℕ) (site : Site) → ReadingState
   Opens : (u : Use) → ReadingState
   -- a `for`: its parentheses come; what stands before its first test does; the test does; what stands behind it does
-  ForOpens : (outer : Stack) → ReadingState
-  StartComes : (outer : Stack) → ReadingState
-  TestComes : (start : Code) (outer : Stack) → ReadingState
-  StepComes : (start : Code) (p : Place) (e : Term) (outer : Stack) → ReadingState
+  ForOpens : (p : Place) (outer : Stack) → ReadingState
+  StartComes : (p : Place) (outer : Stack) → ReadingState
+  TestComes : (start : Start) (outer : Stack) → ReadingState
+  StepComes : (start : Start) (p : Place) (e : Term) (outer : Stack) → ReadingState
   -- a `do`, behind its body and `while`: the parentheses of its test come; the test does
   RedoOpens : (p : Place) (c : Code) (outer : Stack) → ReadingState
   RedoComes : (p : Place) (c : Code) (outer : Stack) → ReadingState

@@ -1,37 +1,30 @@
--- The names of a file whose names have no fault: they are those that it declares.
-use Rattle.std.proofs.Common.{◌≡◌, ℕ, ◌<◌, Bool, true, false, List, [], ◌∷◌, ◌++◌, length, get_or, Option, Some, None, refl, sym, ap, subst, ◌∙◌, append_assoc, append-nil, arith, inl, inr}
-use Rattle.std.specs.Prelude.{IfSome, option_map, nat_eq, if◌then◌else◌, not, ◌&&◌, ◌||◌}
+-- The names of items whose names have no fault: they are those that the items declare.
+use Rattle.std.proofs.Common.{◌≡◌, ℕ, ◌<◌, Bool, true, false, List, [], ◌∷◌, ◌++◌, length, get_or, Option, Some, None, refl, sym, ap, subst, ◌∙◌, append_assoc, append-nil}
+use Rattle.std.specs.Prelude.{option_map, nat_eq, if◌then◌else◌, not, ◌&&◌, ◌||◌}
 use Rattle.std.specs.List.{list_any}
 use Rattle.std.specs.Str.{bytes_eq}
-use Rattle.std.proofs.lemmas.Bool.{eq-eqb, eqb-true, or_right}
+use Rattle.std.proofs.lemmas.Bool.{eqb-true, or_right}
 use Rattle.std.proofs.lemmas.List.{map-append}
 use Rattle.std.proofs.lemmas.List.Folds.{list_any-append}
 use Rattle.fam_outer.specs.declared.faults.Place.{Place}
 use Rattle.fam_outer.specs.declared.faults.FileCode.{FileCode}
 use Rattle.fam_outer.specs.declared.faults.FileCode.TheVariants.{Undeclared, Twice}
 use Rattle.cpp_lines.specs.Faults.{or_later}
-use Rattle.c_tokens.specs.declared.token.Token.{Token}
-use Rattle.c_tokens.specs.declared.token.TokenKind.{TokenKind}
-use Rattle.c_tokens.specs.declared.token.TokenKind.TheVariants as kinds
 use Rattle.c_grammar.specs.declared.items.Item.{Item}
 use Rattle.c_grammar.specs.declared.items.Sign.{Sign}
 use Rattle.c_grammar.specs.declared.items.Sign.TheVariants as signs
-use Rattle.c_grammar.specs.Facts.{IsFit, AreFit}
 use Rattle.c_grammar.specs.Grammar.{at}
 use Rattle.c_grammar.specs.Constants.{is_name}
 use Rattle.c_grammar.specs.Locals.{is_main, declares_behind, declarations_from, of_declarations, is_in_own}
 use Rattle.c_grammar.specs.Scopes.{is_open_behind, scoped_from, names_in_scope, names_taken}
+use Rattle.family_names.proofs.Declared.{names_append, or_left}
 use Rattle.c_parser.specs.declared.names.Limits.{Limits}
-use Rattle.c_parser.specs.Signs.{keyword_of, mark_of, sign_in, marks}
-use Rattle.c_parser.specs.Items.{is_function, number_in, with_name, identifier_sign, names_with_identifier, word_sign, sign_of, names_with_word, names_with, lexeme_in, names_from, items_over}
+use Rattle.c_parser.specs.Items.{with_name}
 use Rattle.c_parser.specs.Judging.{counted}
-use Rattle.c_parser.specs.Signing.{items_from}
-use Rattle.c_parser.specs.Reading.{AreAmong}
-use Rattle.c_parser.specs.Names.{has_main, is_used_behind, name_of, names_of, names_at, each_once, declared_by, limit_fault, declaration_fault, use_fault, name_fault, change_fault, name_fault_from}
+use Rattle.c_parser.specs.Names.{has_main, is_used_behind, name_of, names_of, names_at, each_once, declared_by, limit_fault, declaration_fault, use_fault, name_fault, change_fault, name_fault_from, first_name_fault}
 use Rattle.c_parser.proofs.Judging.{declared_still, declared_behind, declared_on, declared_more}
-use Rattle.c_parser.proofs.Lexical.{IsConstant, new_or_old, keyword_constant, unwrapped_constant, table_constant, marks_constant}
-use Rattle.c_parser.proofs.Arranging.{each_among}
-use Rattle.c_parser.proofs.NameNumbers.{at_number, name_among}
+use Rattle.c_parser.proofs.Arranging.{each_among, text_same}
+use Rattle.c_parser.proofs.NameNumbers.{AreBelow, first_among}
 
 -- ---- no fault
 
@@ -93,21 +86,8 @@ pub record AreTold (limits : Limits) (all names : List (List ℕ)) (items : List
   pub each : (x : ℕ) → list_any (nat_eq x) (declared_by items) ≡ true → IsNumber limits all x
 
 -- nothing more is declared
-still_told : (limits : Limits) (all names : List (List ℕ)) (before more : List Item) → declared_by more ≡ declared_by before → AreTold limits all names before → AreTold limits all names more
+pub still_told : (limits : Limits) (all names : List (List ℕ)) (before more : List Item) → declared_by more ≡ declared_by before → AreTold limits all names before → AreTold limits all names more
 still_told limits all names before more same h = record { told = ap (λ (ds : List ℕ). each_once [] (names_at all ds)) same ∙ h.told; each = λ x e. h.each x (ap (list_any (nat_eq x)) (sym same) ∙ e) }
-
-other_step : (limits : Limits) (all names : List (List ℕ)) (before : List Item) (p : Place) (s : Sign) → name_of s ≡ [] → AreTold limits all names before → AreTold limits all names (before ++ at p s ∷ [])
-other_step limits all names before p s none h = still_told limits all names before (before ++ at p s ∷ []) (declared_still before (at p s) none) h
-
--- a name that is used stands among the names so far
-used_step : (limits : Limits) (all names : List (List ℕ)) (w : List ℕ) (before : List Item) (p : Place) (own : Bool) → list_any (bytes_eq w) all ≡ true → AreTold limits all names before → is_used_behind before ≡ true
-    → use_fault (counted limits) own (names_in_scope before) (number_in all w) ≡ None → AreTold limits all (with_name names w) (before ++ at p (signs.Name (number_in all w)) ∷ [])
-used_step limits all names w before p own found h used none =
-    let declared = scope_declared (number_in all w) before (use_none limits own (names_in_scope before) (number_in all w) none) in
-    let here : list_any (bytes_eq w) names ≡ true =
-    ap (list_any (bytes_eq w)) (sym h.told) ∙ each_among w [] (names_at all (declared_by before)) ∙ name_among all (declared_by before) w found declared in
-    subst (λ (ns : List (List ℕ)). AreTold limits all ns (before ++ at p (signs.Name (number_in all w)) ∷ [])) (sym (ap (λ (b : Bool). if b then names else names ++ w ∷ []) here))
-    (still_told limits all names before (before ++ at p (signs.Name (number_in all w)) ∷ []) (declared_behind before (at p (signs.Name (number_in all w))) used) h)
 
 only : (x y : ℕ) → (nat_eq x y || false) ≡ true → y ≡ x
 only x y e = elim (nat_eq x y) as (λ b. nat_eq x y ≡ b → (b || false) ≡ true → y ≡ x) [
@@ -120,76 +100,109 @@ once_more : (seen names : List (List ℕ)) (w : List ℕ) → each_once seen (na
 once_more seen [] w = refl
 once_more seen (n ∷ ns) w = once_more (with_name seen n) ns w
 
+-- a name with this number
+at_among : (all : List (List ℕ)) (ds : List ℕ) (x : ℕ) → list_any (nat_eq x) ds ≡ true → list_any (bytes_eq (get_or all x [])) (names_at all ds) ≡ true
+at_among all [] x h = absurd cc
+at_among all (d ∷ ds) x h = elim (nat_eq x d) as (λ b. nat_eq x d ≡ b → (b || list_any (nat_eq x) ds) ≡ true → (bytes_eq (get_or all x []) (get_or all d []) || list_any (bytes_eq (get_or all x [])) (names_at all ds)) ≡ true) [
+  | true ↦ λ e _. or_left (bytes_eq (get_or all x []) (get_or all d [])) (list_any (bytes_eq (get_or all x [])) (names_at all ds))
+      (ap (λ (y : ℕ). bytes_eq (get_or all x []) (get_or all y [])) (sym (eqb-true x d e)) ∙ text_same (get_or all x []))
+  | false ↦ λ _ g. or_right (bytes_eq (get_or all x []) (get_or all d [])) (list_any (bytes_eq (get_or all x [])) (names_at all ds)) (at_among all ds x g)
+] refl h
+
+-- a name that is used stands among the names so far
+used_step : (limits : Limits) (all names : List (List ℕ)) (x : ℕ) (before : List Item) (p : Place) (own : Bool) → AreTold limits all names before → is_used_behind before ≡ true
+    → use_fault (counted limits) own (names_in_scope before) x ≡ None → AreTold limits all (with_name names (get_or all x [])) (before ++ at p (signs.Name x) ∷ [])
+used_step limits all names x before p own h used none =
+    let w = get_or all x [] in
+    let declared = scope_declared x before (use_none limits own (names_in_scope before) x none) in
+    let here : list_any (bytes_eq (get_or all x [])) names ≡ true =
+    ap (list_any (bytes_eq w)) (sym h.told) ∙ each_among w [] (names_at all (declared_by before)) ∙ at_among all (declared_by before) x declared in
+    subst (λ (ns : List (List ℕ)). AreTold limits all ns (before ++ at p (signs.Name x) ∷ [])) (sym (ap (λ (b : Bool). if b then names else names ++ w ∷ []) here))
+    (still_told limits all names before (before ++ at p (signs.Name x) ∷ []) (declared_behind before (at p (signs.Name x)) used) h)
+
 -- a name that is declared comes behind them, if it is new
-declared_step : (limits : Limits) (all names : List (List ℕ)) (w : List ℕ) (before : List Item) (p : Place) → number_in all w < length all → list_any (bytes_eq w) all ≡ true → AreTold limits all names before → is_used_behind before ≡ false
-    → declaration_fault (counted limits) (names_taken before) (number_in all w) ≡ None → AreTold limits all (with_name names w) (before ++ at p (signs.Name (number_in all w)) ∷ [])
-declared_step limits all names w before p lt found h used none =
-    let d = declaration_none limits (names_taken before) (number_in all w) none in
-    let more : declared_by (before ++ at p (signs.Name (number_in all w)) ∷ []) ≡ declared_by before ++ number_in all w ∷ [] = declared_on before (at p (signs.Name (number_in all w))) used in
+declared_step : (limits : Limits) (all names : List (List ℕ)) (x : ℕ) (before : List Item) (p : Place) → x < length all → AreTold limits all names before → is_used_behind before ≡ false
+    → declaration_fault (counted limits) (names_taken before) x ≡ None → AreTold limits all (with_name names (get_or all x [])) (before ++ at p (signs.Name x) ∷ [])
+declared_step limits all names x before p lt h used none =
+    let d = declaration_none limits (names_taken before) x none in
+    let more : declared_by (before ++ at p (signs.Name x) ∷ []) ≡ declared_by before ++ x ∷ [] = declared_on before (at p (signs.Name x)) used in
     record {
       told =
           ap (λ (ds : List ℕ). each_once [] (names_at all ds)) more
-          ∙ ap (each_once []) (map-append (λ (i : ℕ). get_or all i []) (declared_by before) (number_in all w ∷ []) ∙ ap (λ (v : List ℕ). names_at all (declared_by before) ++ v ∷ []) (at_number all w found))
-          ∙ once_more [] (names_at all (declared_by before)) w
-          ∙ ap (λ (ns : List (List ℕ)). with_name ns w) h.told;
+          ∙ ap (each_once []) (map-append (λ (i : ℕ). get_or all i []) (declared_by before) (x ∷ []))
+          ∙ once_more [] (names_at all (declared_by before)) (get_or all x [])
+          ∙ ap (λ (ns : List (List ℕ)). with_name ns (get_or all x [])) h.told;
       each = λ y e. (
-          let g : (list_any (nat_eq y) (declared_by before) || (nat_eq y (number_in all w) || false)) ≡ true = sym (list_any-append (nat_eq y) (declared_by before) (number_in all w ∷ [])) ∙ ap (list_any (nat_eq y)) (sym more) ∙ e in
-          elim (list_any (nat_eq y) (declared_by before)) as (λ b. list_any (nat_eq y) (declared_by before) ≡ b → (b || (nat_eq y (number_in all w) || false)) ≡ true → IsNumber limits all y) [
+          let g : (list_any (nat_eq y) (declared_by before) || (nat_eq y x || false)) ≡ true = sym (list_any-append (nat_eq y) (declared_by before) (x ∷ [])) ∙ ap (list_any (nat_eq y)) (sym more) ∙ e in
+          elim (list_any (nat_eq y) (declared_by before)) as (λ b. list_any (nat_eq y) (declared_by before) ≡ b → (b || (nat_eq y x || false)) ≡ true → IsNumber limits all y) [
             | true ↦ λ f _. h.each y f
-            | false ↦ λ _ k. subst (IsNumber limits all) (only y (number_in all w) k) (record { below = lt; within = d.1 })
+            | false ↦ λ _ k. subst (IsNumber limits all) (only y x k) (record { below = lt; within = d.1 })
           ] refl g
           );
     }
 
-name_step : (limits : Limits) (all names : List (List ℕ)) (w : List ℕ) (before : List Item) (p : Place) → number_in all w < length all → AreTold limits all names before → name_fault (counted limits) before (signs.Name (number_in all w)) ≡ None
-    → AreTold limits all (with_name names w) (before ++ at p (signs.Name (number_in all w)) ∷ [])
-name_step limits all names w before p lt h none =
-    let found : list_any (bytes_eq w) all ≡ true = elim (new_or_old all w) [
-      | inl new ↦ absurd (omega (arith, new.1, lt))
-      | inr old ↦ old.0
-    ] in
-    elim (is_used_behind before) as (λ b. is_used_behind before ≡ b → (if b then use_fault (counted limits) (is_in_own before (number_in all w)) (names_in_scope before) (number_in all w) else declaration_fault (counted limits) (names_taken before) (number_in all w)) ≡ None
-    → AreTold limits all (with_name names w) (before ++ at p (signs.Name (number_in all w)) ∷ [])) [
-      | true ↦ λ e g. used_step limits all names w before p (is_in_own before (number_in all w)) found h e g
-      | false ↦ λ e g. declared_step limits all names w before p lt found h e g
-    ] refl none
+-- the names of the items so far, each once
+abbrev so_far : List (List ℕ) → List Item → List (List ℕ)
+so_far all items = each_once [] (names_at all (names_of items))
 
--- ---- a token more
+named_more : (all : List (List ℕ)) (before : List Item) (p : Place) (x : ℕ) → so_far all (before ++ at p (signs.Name x) ∷ []) ≡ with_name (so_far all before) (get_or all x [])
+named_more all before p x =
+    ap (λ (ns : List ℕ). each_once [] (names_at all ns)) (names_append before (at p (signs.Name x) ∷ []))
+    ∙ ap (each_once []) (map-append (λ (i : ℕ). get_or all i []) (names_of before) (x ∷ []))
+    ∙ once_more [] (names_at all (names_of before)) (get_or all x [])
 
-no_name : (s : Sign) → IsFit 0 s → name_of s ≡ []
-no_name (signs.Name x) h = absurd (omega (arith, h))
-no_name _ h = refl
+named_still : (all : List (List ℕ)) (before : List Item) (x : Item) → name_of x.sign ≡ [] → so_far all (before ++ x ∷ []) ≡ so_far all before
+named_still all before x none =
+    ap (λ (ns : List ℕ). each_once [] (names_at all ns)) (names_append before (x ∷ []) ∙ ap (λ (ns : List ℕ). names_of before ++ (ns ++ [])) none ∙ append-nil (names_of before))
 
-identifier_step : (b : Bool) (functions : List (List ℕ)) (limits : Limits) (all names : List (List ℕ)) (w : List ℕ) (before : List Item) (p : Place) → IsFit (length all) (identifier_sign b functions all w) → AreTold limits all names before
-    → name_fault (counted limits) before (identifier_sign b functions all w) ≡ None → AreTold limits all (names_with_identifier b names w) (before ++ at p (identifier_sign b functions all w) ∷ [])
-identifier_step true functions limits all names w before p fit h none = other_step limits all names before p (signs.Function (number_in functions w)) refl h
-identifier_step false functions limits all names w before p fit h none = name_step limits all names w before p fit h none
+-- the numbers of the names of an item are below a count
+abbrev IsBelow : ℕ → Sign → Type 0
+IsBelow count s = AreBelow count (name_of s)
 
-word_step : (functions : List (List ℕ)) (limits : Limits) (all names : List (List ℕ)) (w : List ℕ) (o : Option Sign) → IfSome o IsConstant → (before : List Item) (p : Place) → IsFit (length all) (word_sign functions all w o) → AreTold limits all names before
-    → name_fault (counted limits) before (word_sign functions all w o) ≡ None → AreTold limits all (names_with_word functions names w o) (before ++ at p (word_sign functions all w o) ∷ [])
-word_step functions limits all names w (Some s) c before p fit h none = other_step limits all names before p s (no_name s (c.0 0)) h
-word_step functions limits all names w None c before p fit h none = identifier_step (is_function functions w) functions limits all names w before p fit h none
+name_step : (limits : Limits) (all : List (List ℕ)) (x : ℕ) (before : List Item) (p : Place) → x < length all → AreTold limits all (so_far all before) before → name_fault (counted limits) before (signs.Name x) ≡ None
+    → AreTold limits all (so_far all (before ++ at p (signs.Name x) ∷ [])) (before ++ at p (signs.Name x) ∷ [])
+name_step limits all x before p lt h none =
+    let names = so_far all before in
+    subst (λ (ns : List (List ℕ)). AreTold limits all ns (before ++ at p (signs.Name x) ∷ [])) (sym (named_more all before p x))
+    (elim (is_used_behind before) as (λ b. is_used_behind before ≡ b → (if b then use_fault (counted limits) (is_in_own before x) (names_in_scope before) x else declaration_fault (counted limits) (names_taken before) x) ≡ None
+    → AreTold limits all (with_name names (get_or all x [])) (before ++ at p (signs.Name x) ∷ [])) [
+      | true ↦ λ e g. used_step limits all names x before p (is_in_own before x) h e g
+      | false ↦ λ e g. declared_step limits all names x before p lt h e g
+    ] refl none)
 
-token_step : (functions : List (List ℕ)) (limits : Limits) (all names : List (List ℕ)) (kind : TokenKind) (w : List ℕ) (before : List Item) (p : Place) → IsFit (length all) (sign_of functions all kind w) → AreTold limits all names before
-    → name_fault (counted limits) before (sign_of functions all kind w) ≡ None → AreTold limits all (names_with functions names kind w) (before ++ at p (sign_of functions all kind w) ∷ [])
-token_step functions limits all names (kinds.Number n) w before p fit h none = other_step limits all names before p (signs.Number n) refl h
-token_step functions limits all names kinds.Word w before p fit h none = word_step functions limits all names w (keyword_of w) (keyword_constant w) before p fit h none
-token_step functions limits all names kinds.Mark w before p fit h none = other_step limits all names before p (mark_of w) (no_name (mark_of w) ((unwrapped_constant (sign_in marks w) (table_constant marks marks_constant w)).0 0)) h
+other_step : (limits : Limits) (all : List (List ℕ)) (before : List Item) (x : Item) → name_of x.sign ≡ [] → AreTold limits all (so_far all before) before → AreTold limits all (so_far all (before ++ x ∷ [])) (before ++ x ∷ [])
+other_step limits all before x none h =
+    subst (λ (ns : List (List ℕ)). AreTold limits all ns (before ++ x ∷ [])) (sym (named_still all before x none)) (still_told limits all (so_far all before) before (before ++ x ∷ []) (declared_still before x none) h)
 
--- items over names, among which are all that stand there, declare in their order those of the text
-pub names_from_declared : (functions : List (List ℕ)) (limits : Limits) (all : List (List ℕ)) (text : List ℕ) (names : List (List ℕ)) (ts : List Token) (before : List Item) → AreFit (length all) (items_over functions all text ts) → AreTold limits all names before
-    → name_fault_from (counted limits) before (items_over functions all text ts) ≡ None → AreTold limits all (names_from functions text names ts) (before ++ items_over functions all text ts)
-names_from_declared functions limits all text names [] before fit h none = subst (AreTold limits all names) (sym (append-nil before)) h
-names_from_declared functions limits all text names (t ∷ ts) before fit h none =
-    let x = at t.place (sign_of functions all t.kind (lexeme_in text t)) in
-    let more = name_fault_from (counted limits) (before ++ at t.place (sign_of functions all t.kind (lexeme_in text t)) ∷ []) (items_over functions all text ts) in
-    let n = split_none (name_fault (counted limits) before (sign_of functions all t.kind (lexeme_in text t))) t.place (or_later (change_fault (counted limits) before x) more) none in
+item_step : (limits : Limits) (all : List (List ℕ)) (s : Sign) (before : List Item) (p : Place) → IsBelow (length all) s → AreTold limits all (so_far all before) before → name_fault (counted limits) before s ≡ None
+    → AreTold limits all (so_far all (before ++ at p s ∷ [])) (before ++ at p s ∷ [])
+item_step limits all (signs.Name x) before p b h none = name_step limits all x before p (b x (first_among x [])) h none
+item_step limits all s before p b h none = other_step limits all before (at p s) refl h
+
+-- the first of these numbers and the others are so
+both_below : (count : ℕ) (xs ys : List ℕ) → AreBelow count (xs ++ ys) → AreBelow count xs × AreBelow count ys
+both_below count xs ys b = (
+  λ x h. b x (list_any-append (nat_eq x) xs ys ∙ or_left (list_any (nat_eq x) xs) (list_any (nat_eq x) ys) h),
+  λ x h. b x (list_any-append (nat_eq x) xs ys ∙ or_right (list_any (nat_eq x) xs) (list_any (nat_eq x) ys) h),
+)
+
+told_from : (limits : Limits) (all : List (List ℕ)) (before xs : List Item) → AreBelow (length all) (names_of xs) → AreTold limits all (so_far all before) before → name_fault_from (counted limits) before xs ≡ None
+    → AreTold limits all (so_far all (before ++ xs)) (before ++ xs)
+told_from limits all before [] b h none = subst (λ (ys : List Item). AreTold limits all (so_far all ys) ys) (sym (append-nil before)) h
+told_from limits all before (x ∷ xs) b h none =
+    let more = name_fault_from (counted limits) (before ++ x ∷ []) xs in
+    let n = split_none (name_fault (counted limits) before x.sign) x.place (or_later (change_fault (counted limits) before x) more) none in
     let m = later_none (change_fault (counted limits) before x) more n.1 in
-    subst (AreTold limits all (names_from functions text (names_with functions names t.kind (lexeme_in text t)) ts)) (append_assoc before (at t.place (sign_of functions all t.kind (lexeme_in text t)) ∷ []) (items_over functions all text ts))
-    (names_from_declared functions limits all text (names_with functions names t.kind (lexeme_in text t)) ts (before ++ at t.place (sign_of functions all t.kind (lexeme_in text t)) ∷ []) fit.1
-    (token_step functions limits all names t.kind (lexeme_in text t) before t.place fit.0 h n.0) m.1)
+    let parts = both_below (length all) (name_of x.sign) (names_of xs) b in
+    subst (λ (ys : List Item). AreTold limits all (so_far all ys) ys) (append_assoc before (x ∷ []) xs)
+    (told_from limits all (before ++ x ∷ []) xs parts.1 (item_step limits all x.sign before x.place parts.0 h n.0) m.1)
 
--- ---- where all that is declared is given, no name is new
+-- items without a fault declare all their names, in the order of their first occurrence
+pub all_told : (limits : Limits) (all : List (List ℕ)) (items : List Item) → AreBelow (length all) (names_of items) → first_name_fault (counted limits) items ≡ None → AreTold limits all (each_once [] (names_at all (names_of items))) items
+unfolding first_name_fault
+all_told limits all items b none = told_from limits all [] items b (record { told = refl; each = λ x e. absurd cc }) none
+
+-- ---- each name is declared
 
 -- a name that is declared stays so
 stays_declared : (x : ℕ) (before more : List Item) → list_any (nat_eq x) (declared_by before) ≡ true → list_any (nat_eq x) (declared_by (before ++ more)) ≡ true
@@ -197,43 +210,32 @@ stays_declared x before more e =
     let behind : List ℕ = names_of (declarations_from (has_main before) (declares_behind before) more) in
     ap (list_any (nat_eq x)) (declared_more before more) ∙ list_any-append (nat_eq x) (declared_by before) behind ∙ ap (λ (b : Bool). b || list_any (nat_eq x) behind) e
 
-given_name : (limits : Limits) (given : List (List ℕ)) (w : List ℕ) (before more : List Item) (p : Place) → AreAmong given (before ++ at p (signs.Name (number_in given w)) ∷ more) → name_fault (counted limits) before (signs.Name (number_in given w)) ≡ None → number_in given w < length given
-given_name limits given w before more p among none =
-    let x : ℕ = number_in given w in
-    let item : Item = at p (signs.Name (number_in given w)) in
-    elim (is_used_behind before) as (λ b. is_used_behind before ≡ b → (if b then use_fault (counted limits) (is_in_own before (number_in given w)) (names_in_scope before) (number_in given w) else declaration_fault (counted limits) (names_taken before) (number_in given w)) ≡ None → number_in given w < length given) [
-      | true ↦ λ e g. among x (stays_declared x before (item ∷ more) (scope_declared x before (use_none limits (is_in_own before x) (names_in_scope before) x g)))
-      | false ↦ λ e g. among x (subst (λ (ys : List Item). list_any (nat_eq x) (declared_by ys) ≡ true) (append_assoc before (item ∷ []) more) (stays_declared x (before ++ item ∷ []) more
-          (ap (list_any (nat_eq x)) (declared_on before item e) ∙ list_any-append (nat_eq x) (declared_by before) (x ∷ []) ∙ or_right (list_any (nat_eq x) (declared_by before)) (list_any (nat_eq x) (x ∷ [])) (rw (eq-eqb x x refl) refl))))
+name_declared : (limits : Limits) (x : ℕ) (before more : List Item) (p : Place) → name_fault (counted limits) before (signs.Name x) ≡ None → list_any (nat_eq x) (declared_by (before ++ at p (signs.Name x) ∷ more)) ≡ true
+name_declared limits x before more p none =
+    let item : Item = at p (signs.Name x) in
+    elim (is_used_behind before) as (λ b. is_used_behind before ≡ b → (if b then use_fault (counted limits) (is_in_own before x) (names_in_scope before) x else declaration_fault (counted limits) (names_taken before) x) ≡ None → list_any (nat_eq x) (declared_by (before ++ at p (signs.Name x) ∷ more)) ≡ true) [
+      | true ↦ λ e g. stays_declared x before (item ∷ more) (scope_declared x before (use_none limits (is_in_own before x) (names_in_scope before) x g))
+      | false ↦ λ e g. subst (λ (ys : List Item). list_any (nat_eq x) (declared_by ys) ≡ true) (append_assoc before (item ∷ []) more) (stays_declared x (before ++ item ∷ []) more
+          (ap (list_any (nat_eq x)) (declared_on before item e) ∙ list_any-append (nat_eq x) (declared_by before) (x ∷ []) ∙ or_right (list_any (nat_eq x) (declared_by before)) (list_any (nat_eq x) (x ∷ [])) (first_among x [])))
     ] refl none
 
-given_identifier : (b : Bool) (functions : List (List ℕ)) (limits : Limits) (given : List (List ℕ)) (w : List ℕ) (before more : List Item) (p : Place) → AreAmong given (before ++ at p (identifier_sign b functions given w) ∷ more)
-    → name_fault (counted limits) before (identifier_sign b functions given w) ≡ None → names_with_identifier b given w ≡ given
-given_identifier true functions limits given w before more p among none = refl
-given_identifier false functions limits given w before more p among none = elim (new_or_old given w) [
-  | inl new ↦ absurd (omega (arith, new.1, given_name limits given w before more p among none))
-  | inr old ↦ rw old.0 refl
-]
+sign_declared : (limits : Limits) (x : ℕ) (s : Sign) (before more : List Item) (p : Place) → name_fault (counted limits) before s ≡ None → list_any (nat_eq x) (name_of s) ≡ true → list_any (nat_eq x) (declared_by (before ++ at p s ∷ more)) ≡ true
+sign_declared limits x (signs.Name y) before more p none h =
+    subst (λ (k : ℕ). list_any (nat_eq k) (declared_by (before ++ at p (signs.Name y) ∷ more)) ≡ true) (only x y h) (name_declared limits y before more p none)
+sign_declared limits x s before more p none h = absurd cc
 
-given_word : (functions : List (List ℕ)) (limits : Limits) (given : List (List ℕ)) (w : List ℕ) (o : Option Sign) (before more : List Item) (p : Place) → AreAmong given (before ++ at p (word_sign functions given w o) ∷ more) → name_fault (counted limits) before (word_sign functions given w o) ≡ None → names_with_word functions given w o ≡ given
-given_word functions limits given w (Some s) before more p among none = refl
-given_word functions limits given w None before more p among none = given_identifier (is_function functions w) functions limits given w before more p among none
+declared_from : (limits : Limits) (x : ℕ) (before xs : List Item) → name_fault_from (counted limits) before xs ≡ None → list_any (nat_eq x) (names_of xs) ≡ true → list_any (nat_eq x) (declared_by (before ++ xs)) ≡ true
+declared_from limits x before [] none h = absurd cc
+declared_from limits x before (y ∷ ys) none h =
+    let more = name_fault_from (counted limits) (before ++ y ∷ []) ys in
+    let n = split_none (name_fault (counted limits) before y.sign) y.place (or_later (change_fault (counted limits) before y) more) none in
+    let m = later_none (change_fault (counted limits) before y) more n.1 in
+    elim (list_any (nat_eq x) (name_of y.sign)) as (λ b. list_any (nat_eq x) (name_of y.sign) ≡ b → (b || list_any (nat_eq x) (names_of ys)) ≡ true → list_any (nat_eq x) (declared_by (before ++ y ∷ ys)) ≡ true) [
+      | true ↦ λ e _. sign_declared limits x y.sign before ys y.place n.0 e
+      | false ↦ λ _ g. subst (λ (zs : List Item). list_any (nat_eq x) (declared_by zs) ≡ true) (append_assoc before (y ∷ []) ys) (declared_from limits x (before ++ y ∷ []) ys m.1 g)
+    ] refl (sym (list_any-append (nat_eq x) (name_of y.sign) (names_of ys)) ∙ h)
 
-given_token : (functions : List (List ℕ)) (limits : Limits) (given : List (List ℕ)) (kind : TokenKind) (w : List ℕ) (before more : List Item) (p : Place) → AreAmong given (before ++ at p (sign_of functions given kind w) ∷ more) → name_fault (counted limits) before (sign_of functions given kind w) ≡ None → names_with functions given kind w ≡ given
-given_token functions limits given (kinds.Number n) w before more p among none = refl
-given_token functions limits given kinds.Word w before more p among none = given_word functions limits given w (keyword_of w) before more p among none
-given_token functions limits given kinds.Mark w before more p among none = refl
-
-abbrev Holds : List (List ℕ) → Limits → List ℕ → List (List ℕ) → List Token → List Item → List (List ℕ) → Type 0
-Holds functions limits text given ts before names = (name_fault_from (counted limits) before (items_from functions text names ts) ≡ None) → AreAmong given (before ++ items_from functions text names ts) → names_from functions text names ts ≡ given
-
-pub names_from_given : (functions : List (List ℕ)) (limits : Limits) (text : List ℕ) (given : List (List ℕ)) (ts : List Token) (before : List Item) → Holds functions limits text given ts before given
-names_from_given functions limits text given [] before none among = refl
-names_from_given functions limits text given (t ∷ ts) before none among =
-    let x = at t.place (sign_of functions given t.kind (lexeme_in text t)) in
-    let more = name_fault_from (counted limits) (before ++ at t.place (sign_of functions given t.kind (lexeme_in text t)) ∷ []) (items_from functions text (names_with functions given t.kind (lexeme_in text t)) ts) in
-    let n = split_none (name_fault (counted limits) before (sign_of functions given t.kind (lexeme_in text t))) t.place (or_later (change_fault (counted limits) before x) more) none in
-    let m = later_none (change_fault (counted limits) before x) more n.1 in
-    let same = given_token functions limits given t.kind (lexeme_in text t) before (items_from functions text (names_with functions given t.kind (lexeme_in text t)) ts) t.place among n.0 in
-    subst (Holds functions limits text given ts (before ++ at t.place (sign_of functions given t.kind (lexeme_in text t)) ∷ [])) (sym same) (names_from_given functions limits text given ts (before ++ at t.place (sign_of functions given t.kind (lexeme_in text t)) ∷ []))
-    m.1 (subst (AreAmong given) (sym (append_assoc before (at t.place (sign_of functions given t.kind (lexeme_in text t)) ∷ []) (items_from functions text (names_with functions given t.kind (lexeme_in text t)) ts))) among)
+-- each name of items without a fault is declared
+pub each_declared : (limits : Limits) (items : List Item) (x : ℕ) → first_name_fault (counted limits) items ≡ None → list_any (nat_eq x) (names_of items) ≡ true → list_any (nat_eq x) (declared_by items) ≡ true
+unfolding first_name_fault
+each_declared limits items x none h = declared_from limits x [] items none h

@@ -36,6 +36,9 @@ use Rattle.feature_values.specs.Values.{test_count, uses_of}
 use Rattle.c_grammar.specs.declared.items.Item.{Item}
 use Rattle.c_grammar.specs.Facts.{Conditioned}
 use Rattle.c_grammar.specs.Within.{WithinIsFile}
+use Rattle.for_blocks.proofs.NamesBehind.{names_stay}
+use Rattle.for_blocks.specs.Blocks.{unfolded}
+use Rattle.for_blocks.specs.Names.{NamesStay}
 use Rattle.c_parser.specs.declared.family_items.Conditions.{Conditions}
 use Rattle.c_parser.specs.declared.family.Family.{Family}
 use Rattle.c_parser.specs.declared.numbering.Numbered.{Numbered}
@@ -48,6 +51,7 @@ use Rattle.c_parser.specs.Order.{arranged}
 use Rattle.c_parser.specs.Phases.{IsAcceptedFile}
 use Rattle.c_parser.specs.Reading.{items_of_code}
 use Rattle.c_parser.specs.Stages.{IsSpelledBy, list, listed_in}
+use Rattle.c_parser.proofs.BlockNames.{block_has}
 use Rattle.c_parser.proofs.FamilyNames.{family_occurs}
 use Rattle.c_parser.proofs.FewNames.{few_names}
 use Rattle.c_parser.proofs.ValueTests.{few_value_tests}
@@ -113,11 +117,18 @@ few_conditions dialect model text s r =
 abbrev pub NamesOccur : Type 0
 NamesOccur = (dialect : Dialect) (model : Plain) (bytes : List ℕ) (told : Told) (l : Listed) (x : ℕ) → HasItems dialect model bytes told l → x < length l.names → has x l.items ≡ true
 
-pub names_are_few : NamesOccur → (dialect : Dialect) (model : Model) (bytes : List ℕ) (known : Conditions) (p : Whole) → IsAcceptedFile (families_over dialect model) bytes known p → length p.names ≤ 48
-names_are_few occur dialect model bytes known p o =
+-- and of the names of its blocks
+abbrev pub NamesStandInBlocks : Type 0
+NamesStandInBlocks = (dialect : Dialect) (model : Plain) (bytes : List ℕ) (told : Told) (l : Listed) (x : ℕ) → HasItems dialect model bytes told l → x < length l.names → has x (unfolded l.items) ≡ true
+
+pub in_blocks : NamesStay → NamesOccur → NamesStandInBlocks
+in_blocks stay occur dialect model bytes told l x h lt = block_has stay x l.items ∙ occur dialect model bytes told l x h lt
+
+pub names_are_few : NamesStandInBlocks → (dialect : Dialect) (model : Model) (bytes : List ℕ) (known : Conditions) (p : Whole) → IsAcceptedFile (families_over dialect model) bytes known p → length p.names ≤ 48
+names_are_few stand dialect model bytes known p o =
     let l = o.listed in
     subst (λ (ns : List (List ℕ)). length ns ≤ 48) (sym (ap (λ (w : Whole). w.names) o.spelled.is))
-    (few_names (context_of model known.atoms known.formulas o.listed.names known.functions) l.items (length l.names) o.names (λ x lt. occur dialect (plain model) bytes o.are.told l x o.are.items lt))
+    (few_names (context_of model known.atoms known.formulas o.listed.names known.functions) (unfolded l.items) (length l.names) o.names (λ x lt. stand dialect (plain model) bytes o.are.told l x o.are.items lt))
 
 pub conditioned : Conditioned → WithinIsFile → (features : ℕ) (p : Whole) (known : Conditions) → IsSpelledBy (AreProperConditions features) p known → IsConditioned (length known.formulas) p
 conditioned law is_file features p known h = law (length known.formulas) h.listed.names h.listed.items p h.has.numbered (is_file h.listed.names h.listed.items p h.spelled)
@@ -133,11 +144,11 @@ family_of dialect model bytes known spelled f accepted code adds = record {
   conditions = adds (plain model) accepted.are.told.conditions accepted.are.conditions;
 }
 
-pub tests_are_few : NamesOccur → (dialect : Dialect) (model : Model) (bytes : List ℕ) (known : Conditions) (p : Whole) → IsAcceptedFile (families_over dialect model) bytes known p → test_count model.features (uses_in model p) ≤ 256
-tests_are_few occur dialect model bytes known p o =
+pub tests_are_few : NamesStandInBlocks → (dialect : Dialect) (model : Model) (bytes : List ℕ) (known : Conditions) (p : Whole) → IsAcceptedFile (families_over dialect model) bytes known p → test_count model.features (uses_in model p) ≤ 256
+tests_are_few stand dialect model bytes known p o =
     let l = o.listed in
     subst (λ (ns : List (List ℕ)). test_count model.features (uses_of model.features ns) ≤ 256) (sym (ap (λ (w : Whole). w.names) o.spelled.is))
-    (few_value_tests (context_of model known.atoms known.formulas l.names known.functions) l.items o.names (λ x lt. occur dialect (plain model) bytes o.are.told l x o.are.items lt))
+    (few_value_tests (context_of model known.atoms known.formulas l.names known.functions) (unfolded l.items) o.names (λ x lt. stand dialect (plain model) bytes o.are.told l x o.are.items lt))
 
 -- each name of a family occurs among its items
 names_occur : NamesOccur
@@ -145,4 +156,4 @@ names_occur = family_occurs (record { read = is_reading; literal = small; rise =
 
 -- the tests of the features that an accepted family names are at most 256
 pub few_tests : (dialect : Dialect) (model : Model) (bytes : List ℕ) (known : Conditions) (p : Whole) → IsAcceptedFile (families_over dialect model) bytes known p → test_count model.features (uses_in model p) ≤ 256
-few_tests = tests_are_few names_occur
+few_tests = tests_are_few (in_blocks names_stay names_occur)

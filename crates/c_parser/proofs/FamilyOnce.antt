@@ -21,6 +21,7 @@ use Rattle.feature_values.specs.Declarators.{with_values}
 use Rattle.feature_values.specs.Values.{uses_of, tests_of}
 use Rattle.family_names.specs.Laws.{NamesAreJudgedOnce}
 use Rattle.family_names.specs.Names.{IsFirstNameFault}
+use Rattle.for_blocks.specs.Blocks.{unfolded}
 use Rattle.c_parser.specs.declared.family_items.Conditions.{Conditions}
 use Rattle.c_parser.specs.declared.family.Family.{Family}
 use Rattle.c_parser.specs.FamilyItems.{HasItems, HasEarlyFault, family_listed, feature_names}
@@ -93,11 +94,11 @@ record HaveFirstFault (model : Model) (functions : List (List ℕ)) (told : Told
   atoms : List Atom
   conditions : List Formula
   are : AreConditionsOf (plain model) told.conditions atoms conditions
-  is : IsFirstNameFault (context_of model atoms conditions l.names functions) l.items fault
+  is : IsFirstNameFault (context_of model atoms conditions l.names functions) (unfolded l.items) fault
 
 named_once : NamesAreJudgedOnce → (a b : Model) → plain a ≡ plain b → (functions : List (List ℕ)) (told : Told) (l : Listed) (f g : Option (FileCode × Place)) → HaveFirstFault a functions told l f → HaveFirstFault b functions told l g → f ≡ g
 named_once judged a b e functions told l f g h k =
-    judged (context_of a h.atoms h.conditions l.names functions) (context_of b k.atoms k.conditions l.names functions) l.items f g
+    judged (context_of a h.atoms h.conditions l.names functions) (context_of b k.atoms k.conditions l.names functions) (unfolded l.items) f g
     (record { models = e; names = refl; functions = refl; truths = λ values. h.are.truths values ∙ sym (k.are.truths values) }) h.is k.is
 
 -- what items come to: behind a program the names are judged
@@ -116,8 +117,8 @@ functions_are dialect model bytes l known are = are.functions ∙ sym (ap functi
 judged_ends : GrammarLaws → (dialect : Dialect) (model : Model) (bytes : List ℕ) (l : Listed) (known : Conditions) (end : Place) (p : Whole) (fault : Option (FileCode × Place)) → (are : IsListedFamily dialect (plain model) bytes l known)
     → SpellsWithin l.names p l.items → (families_over dialect model).named l known fault → Ends model (functions_of_bytes bytes) are.told l (spelled l end) (with_names fault p)
 judged_ends laws dialect model bytes l known end p fault are s n =
-    let is : IsFirstNameFault (context_of model known.atoms known.formulas l.names (functions_of_bytes bytes)) l.items fault =
-    subst (λ (fs : List (List ℕ)). IsFirstNameFault (context_of model known.atoms known.formulas l.names fs) l.items fault) (functions_are dialect (plain model) bytes l known are) n in
+    let is : IsFirstNameFault (context_of model known.atoms known.formulas l.names (functions_of_bytes bytes)) (unfolded l.items) fault =
+    subst (λ (fs : List (List ℕ)). IsFirstNameFault (context_of model known.atoms known.formulas l.names fs) (unfolded l.items) fault) (functions_are dialect (plain model) bytes l known are) n in
     subst (λ (x : Answer). Ends model (functions_of_bytes bytes) are.told l x (with_names fault p)) (sym (program_spelled laws (wrong_code l.items) l end p s))
     (fault, record { atoms = known.atoms; conditions = known.formulas; are = are.conditions; is = is }, refl)
 

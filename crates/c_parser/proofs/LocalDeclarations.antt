@@ -195,7 +195,7 @@ stretch_first w (before gs us {ts} {ds} s h) = ap (from_here false) (append_asso
 stretch_first w (both gs {ts} {us} {ds} {es} s t) =
     ap (from_here false) (append_assoc ts us w)
     ∙ parts_both ds es (from_here false (ts ++ (us ++ w))) (from_here false (us ++ w)) (from_here false w) (stretch_first (us ++ w) s) (stretch_first w t)
-stretch_first w (declarators gs {ts} {us} {vs} {c} {kind} {es} q v s) =
+stretch_first w (declarators gs {ts} {us} {vs} {c} {kind} {each} {es} q v s) =
     let re : (ts ++ (us ++ vs)) ++ w ≡ ts ++ (us ++ (vs ++ w)) = simp append_assoc in
     ap (from_here false) re ∙ qualified_skipped (us ++ (vs ++ w)) q
     ∙ parts_both (locals_in gs v) es (from_here true (us ++ (vs ++ w))) (from_here false (vs ++ w)) (from_here false w) (locals_first gs (vs ++ w) v) (stretch_first w s)

@@ -35,7 +35,7 @@ number_at names k h lt = own_number [] names k h lt
 abbrev pub AreBelow : ℕ → List ℕ → Type 0
 AreBelow count xs = (x : ℕ) → list_any (nat_eq x) xs ≡ true → x < count
 
-first_among : (x : ℕ) (xs : List ℕ) → list_any (nat_eq x) (x ∷ xs) ≡ true
+pub first_among : (x : ℕ) (xs : List ℕ) → list_any (nat_eq x) (x ∷ xs) ≡ true
 first_among x xs = or_left (nat_eq x x) (list_any (nat_eq x) xs) (eq-eqb x x refl)
 
 -- a name stands among those with some numbers if its number is one of these

@@ -16,17 +16,20 @@ use Rattle.c_grammar.specs.declared.items.Item.{Item}
 use Rattle.c_grammar.specs.Facts.{PlainWithoutGroups}
 use Rattle.c_grammar.specs.Grammar.{has_groups}
 use Rattle.c_grammar.specs.Within.{WithinIsFile}
+use Rattle.for_blocks.specs.Blocks.{unfolded}
 use Rattle.c_parser.specs.declared.names.Limits.{Limits}
 use Rattle.c_parser.specs.declared.numbering.Numbered.{Numbered}
-use Rattle.c_parser.specs.Items.{Listed, listed, names_from}
+use Rattle.c_parser.specs.Items.{Listed, listed}
 use Rattle.c_parser.specs.Judging.{counted}
-use Rattle.c_parser.specs.Names.{first_name_fault, name_fault_from}
+use Rattle.c_parser.specs.Names.{first_name_fault, names_of}
 use Rattle.c_parser.specs.Phases.{IsReadAs}
-use Rattle.c_parser.specs.Signing.{IsListed}
+use Rattle.c_parser.specs.Signing.{IsListed, items_from}
 use Rattle.c_parser.specs.Stages.{IsSpelledBy, given_in, list, listed_in}
 use Rattle.c_parser.specs.Reading.{IsReadOver, DeclaresAmong, AreAmong, items_of, items_of_code, code_of_file, only_names, plain_files}
 use Rattle.c_parser.proofs.Stepwise.{all_over}
-use Rattle.c_parser.proofs.Declared.{names_from_given}
+use Rattle.c_parser.proofs.BlockNames.{BlockLaws, block_declared}
+use Rattle.c_parser.proofs.FirstOccurrences.{none_new}
+use Rattle.c_parser.proofs.NameNumbers.{AreBelow}
 
 -- what was numbered is this list
 pub same_list : (l : Listed) (made : Numbered) → IsListed l made → listed_in made ≡ l
@@ -80,26 +83,26 @@ stands_anew functions includes given other bytes l s =
 
 -- ---- over given names, among which are all that the file declares, a program has these
 
-given_stay : (functions : List (List ℕ)) (limits : Limits) (code : List ℕ) (names : List (List ℕ)) (ts : List Token) → first_name_fault (counted limits) (listed functions names code ts).items ≡ None → AreAmong names (listed functions names code ts).items → names_from functions code names ts ≡ names
-unfolding first_name_fault
-given_stay functions limits code names ts none among =
-    names_from_given functions limits code names ts [] (subst (λ (xs : List Item). name_fault_from (counted limits) [] xs ≡ None) (sym (all_over functions code names ts)) none)
-    (subst (AreAmong names) (sym (all_over functions code names ts)) among)
+-- the numbers of names of its items are those of given names
+among_given : BlockLaws → (limits : Limits) (given : List (List ℕ)) (items : List Item) → first_name_fault (counted limits) (unfolded items) ≡ None → AreAmong given items → AreBelow (length given) (names_of items)
+among_given blocks limits given items none among = λ x h. among x (block_declared blocks limits items x none h)
 
-names_given : (functions : List (List ℕ)) (limits : Limits) (includes : Includes) (given : List (List ℕ)) (bytes : List ℕ) → DeclaresAmong includes functions given bytes → (l : Listed) → items_of includes functions given bytes ≡ Ok l → first_name_fault (counted limits) l.items ≡ None → l.names ≡ given
-names_given functions limits includes given bytes among l are none =
+names_given : BlockLaws → (functions : List (List ℕ)) (limits : Limits) (includes : Includes) (given : List (List ℕ)) (bytes : List ℕ) → DeclaresAmong includes functions given bytes → (l : Listed) → items_of includes functions given bytes ≡ Ok l → first_name_fault (counted limits) (unfolded l.items) ≡ None → l.names ≡ given
+names_given blocks functions limits includes given bytes among l are none =
     let s = stands_for functions includes given bytes l are in
-    subst (λ (m : Listed). m.names ≡ given) (sym s.is)
-    (given_stay functions limits s.code given s.tokens (subst (λ (m : Listed). first_name_fault (counted limits) m.items ≡ None) s.is none) (subst (λ (m : Listed). AreAmong given m.items) s.is (among l are)))
+    let below : AreBelow (length given) (names_of l.items) = among_given blocks limits given l.items none (among l are) in
+    let numbered : AreBelow (length given) (names_of (items_from functions s.code given s.tokens)) =
+    subst (λ (xs : List Item). AreBelow (length given) (names_of xs)) (ap (λ (m : Listed). m.items) s.is ∙ sym (all_over functions s.code given s.tokens)) below in
+    ap (λ (m : Listed). m.names) s.is ∙ none_new functions s.code given s.tokens numbered
 
 -- no name is counted
 abbrev uncounted : Limits
 uncounted = record { variables = 0; locals = 0; constants = 0 }
 
-pub has_given : (functions : List (List ℕ)) (includes : Includes) (given : List (List ℕ)) (bytes : List ℕ) (r : Result Program FileRefusal) → DeclaresAmong includes functions given bytes → IsReadOver includes (only_names functions given) bytes r → IfOk r (λ p. (whole p).names ≡ given)
-has_given functions includes given bytes (Ok p) among a =
-    ap (λ (w : Whole). w.names) a.is ∙ ap (λ (w : Whole). w.names) a.accepted.spelled.is ∙ names_given functions uncounted includes given bytes among a.accepted.listed a.accepted.are a.accepted.names
-has_given functions includes given bytes (Err e) among h = tt
+pub has_given : BlockLaws → (functions : List (List ℕ)) (includes : Includes) (given : List (List ℕ)) (bytes : List ℕ) (r : Result Program FileRefusal) → DeclaresAmong includes functions given bytes → IsReadOver includes (only_names functions given) bytes r → IfOk r (λ p. (whole p).names ≡ given)
+has_given blocks functions includes given bytes (Ok p) among a =
+    ap (λ (w : Whole). w.names) a.is ∙ ap (λ (w : Whole). w.names) a.accepted.spelled.is ∙ names_given blocks functions uncounted includes given bytes among a.accepted.listed a.accepted.are a.accepted.names
+has_given blocks functions includes given bytes (Err e) among h = tt
 
 -- ---- a program with few names is well formed
 

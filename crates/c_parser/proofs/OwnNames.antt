@@ -24,7 +24,9 @@ use Rattle.c_tree.specs.Whole.{IsProgram}
 use Rattle.c_tree.specs.declared.tree.Program.{Program}
 use Rattle.c_grammar.specs.declared.items.Item.{Item}
 use Rattle.c_grammar.specs.declared.items.Sign.{Sign}
+use Rattle.c_grammar.specs.Facts.{AreFit}
 use Rattle.c_grammar.specs.Within.{WithinIsFile}
+use Rattle.for_blocks.specs.Blocks.{unfolded}
 use Rattle.c_parser.specs.declared.names.Limits.{Limits}
 use Rattle.c_parser.specs.declared.numbering.Numbered.{Numbered}
 use Rattle.c_parser.specs.declared.order.Arranged.{Arranged}
@@ -38,7 +40,9 @@ use Rattle.c_parser.specs.Reading.{Given, code_of_file, items_of_code, items_of,
 use Rattle.c_parser.specs.Stages.{IsOwn, list, listed_in}
 use Rattle.c_parser.proofs.Arranging.{text_same, each_among, arranged_distinct, arranged_among, arranged_length}
 use Rattle.c_parser.proofs.LocalDeclarations.{declared_all}
-use Rattle.c_parser.proofs.Declared.{AreTold, names_from_declared}
+use Rattle.c_parser.proofs.BlockNames.{BlockLaws, blocks_told}
+use Rattle.c_parser.proofs.Declared.{AreTold}
+use Rattle.c_parser.proofs.FirstOccurrences.{first_names, names_below}
 use Rattle.c_parser.proofs.Growing.{with_token}
 use Rattle.c_parser.proofs.Lexical.{TokenLaws}
 use Rattle.c_parser.proofs.NameNumbers.{number_at, number_among}
@@ -85,12 +89,14 @@ abbrev pub limits_of : Listed → Limits
 limits_of first = record { variables = length (variables_of [] first); locals = length (locals_of [] first); constants = length (constants_of [] first) }
 
 -- without a fault, the items over them declare those of the text in their order
-told_over : (functions : List (List ℕ)) → TokenLaws → (first : Listed) (code : List ℕ) (ts : List Token) → tokens_of code ≡ Ok ts → first.names ≡ names_from functions code [] ts → AreDistinct first.names → first_name_fault (counted (limits_of first)) (items_over functions (arranged [] first) code ts) ≡ None
+told_over : (functions : List (List ℕ)) → TokenLaws → BlockLaws → (first : Listed) (code : List ℕ) (ts : List Token) → tokens_of code ≡ Ok ts → first.names ≡ names_from functions code [] ts → AreDistinct first.names → first_name_fault (counted (limits_of first)) (unfolded (items_over functions (arranged [] first) code ts)) ≡ None
     → AreTold (limits_of first) (arranged [] first) first.names (items_over functions (arranged [] first) code ts)
-unfolding first_name_fault
-told_over functions laws first code ts is names distinct none =
-    subst (λ (ns : List (List ℕ)). AreTold (limits_of first) (arranged [] first) ns (items_over functions (arranged [] first) code ts)) (sym names)
-    (names_from_declared functions (limits_of first) (arranged [] first) code [] ts [] (fit_anew functions laws [] first code ts is distinct names) (record { told = refl; each = λ x e. absurd cc }) none)
+told_over functions laws blocks first code ts is names distinct none =
+    let all = arranged [] first in
+    let items = items_over functions all code ts in
+    let fit : AreFit (length (arranged [] first)) (items_over functions (arranged [] first) code ts) = fit_anew functions laws [] first code ts is distinct names in
+    subst (λ (ns : List (List ℕ)). AreTold (limits_of first) (arranged [] first) ns (items_over functions (arranged [] first) code ts)) (first_names functions all code [] ts fit ∙ sym names)
+    (blocks_told blocks (limits_of first) all items (names_below (length all) items fit) none)
 
 -- so none of them is one too many
 none_too_many : (limits : Limits) (first : Listed) (items : List Item) → AreDistinct first.names → AreTold limits (arranged [] first) first.names items → (x : ℕ) → x < length (arranged [] first) → limit_fault (counted limits) x ≡ None
@@ -178,18 +184,18 @@ pub record IsOwnList (includes : Includes) (bytes : List ℕ) (l : Listed) : Typ
   pub told : each_once [] (names_at l.names (declared_by l.items)) ≡ first.names
   pub few : length l.names ≤ 48
 
-own_list : TokenLaws → (includes : Includes) (bytes : List ℕ) (x : Result Listed (FileCode × Place)) → items_of includes (functions_of_bytes bytes) [] bytes ≡ x → (l : Listed)
-    → items_of includes (own_names (functions_of_bytes bytes) x).functions (own_names (functions_of_bytes bytes) x).names bytes ≡ Ok l → first_name_fault (outside (own_names (functions_of_bytes bytes) x)) l.items ≡ None → IsOwnList includes bytes l
-own_list laws includes bytes (Err fault) e l are none = absurd (no_list fault l (items_of includes [] [] bytes) (refused_over includes bytes fault (functions_of_bytes bytes) [] e) are)
-own_list laws includes bytes (Ok first) e l are none =
+own_list : TokenLaws → BlockLaws → (includes : Includes) (bytes : List ℕ) (x : Result Listed (FileCode × Place)) → items_of includes (functions_of_bytes bytes) [] bytes ≡ x → (l : Listed)
+    → items_of includes (own_names (functions_of_bytes bytes) x).functions (own_names (functions_of_bytes bytes) x).names bytes ≡ Ok l → first_name_fault (outside (own_names (functions_of_bytes bytes) x)) (unfolded l.items) ≡ None → IsOwnList includes bytes l
+own_list laws blocks includes bytes (Err fault) e l are none = absurd (no_list fault l (items_of includes [] [] bytes) (refused_over includes bytes fault (functions_of_bytes bytes) [] e) are)
+own_list laws blocks includes bytes (Ok first) e l are none =
     let functions = functions_of_bytes bytes in
     let s = stands_for (functions_of_bytes bytes) includes [] bytes first e in
     let names : first.names ≡ names_from (functions_of_bytes bytes) s.code [] s.tokens = ap (λ (m : Listed). m.names) s.is in
     let distinct : AreDistinct first.names = subst AreDistinct (sym names) (distinct_from functions s.code [] s.tokens tt) in
     let same : l ≡ renumbered (functions_of_bytes bytes) (arranged [] first) s.code s.tokens =
     same_listed (listed functions (arranged [] first) s.code s.tokens) l (sym (stands_anew functions includes [] (arranged [] first) bytes first s) ∙ are) ∙ listed_anew functions [] first s.code s.tokens distinct names in
-    let none_there : first_name_fault (counted (limits_of first)) (items_over (functions_of_bytes bytes) (arranged [] first) s.code s.tokens) ≡ None = ap (λ (m : Listed). first_name_fault (counted (limits_of first)) m.items) (sym same) ∙ none in
-    let told = told_over functions laws first s.code s.tokens s.tokens_are names distinct none_there in
+    let none_there : first_name_fault (counted (limits_of first)) (unfolded (items_over (functions_of_bytes bytes) (arranged [] first) s.code s.tokens)) ≡ None = ap (λ (m : Listed). first_name_fault (counted (limits_of first)) (unfolded m.items)) (sym same) ∙ none in
+    let told = told_over functions laws blocks first s.code s.tokens s.tokens_are names distinct none_there in
     record {
       first = first;
       first_are = e;
@@ -198,17 +204,17 @@ own_list laws includes bytes (Ok first) e l are none =
       few = subst (λ (m : Listed). length m.names ≤ 48) (sym same) (few_names first (none_too_many (limits_of first) first (items_over functions (arranged [] first) s.code s.tokens) distinct told));
     }
 
-own_read : TokenLaws → (includes : Includes) (bytes : List ℕ) (p : Whole) → (a : IsPlainRead includes bytes (Ok p)) → IsOwnList includes bytes a.accepted.listed
-own_read laws includes bytes p a = own_list laws includes bytes (items_of includes (functions_of_bytes bytes) [] bytes) refl a.accepted.listed a.accepted.are a.accepted.names
+own_read : TokenLaws → BlockLaws → (includes : Includes) (bytes : List ℕ) (p : Whole) → (a : IsPlainRead includes bytes (Ok p)) → IsOwnList includes bytes a.accepted.listed
+own_read laws blocks includes bytes p a = own_list laws blocks includes bytes (items_of includes (functions_of_bytes bytes) [] bytes) refl a.accepted.listed a.accepted.are a.accepted.names
 
 -- values from outside change no name
 same_names : (includes : Includes) (bytes : List ℕ) (p : Whole) → (a : IsPlainRead includes bytes (Ok p)) → p.names ≡ a.accepted.listed.names
 same_names includes bytes p a = ap (λ (w : Whole). w.names) a.is ∙ ap (λ (w : Whole). w.names) a.accepted.spelled.is
 
-pub own_declared : TokenLaws → WithinIsFile → (includes : Includes) (bytes : List ℕ) (p : Whole) → IsPlainRead includes bytes (Ok p) → AreDeclaredNames includes bytes p.names
-own_declared laws is_file includes bytes p a =
+pub own_declared : TokenLaws → BlockLaws → WithinIsFile → (includes : Includes) (bytes : List ℕ) (p : Whole) → IsPlainRead includes bytes (Ok p) → AreDeclaredNames includes bytes p.names
+own_declared laws blocks is_file includes bytes p a =
     let l = a.accepted.listed in
-    let o = own_read laws includes bytes p a in
+    let o = own_read laws blocks includes bytes p a in
     let spelled = is_file l.names l.items a.spelled a.accepted.spelled in
     let names = same_names includes bytes p a in
     let given : (own includes bytes).names ≡ a.accepted.listed.names = ap (λ (r : Result Listed (FileCode × Place)). (own_names (functions_of_bytes bytes) r).names) o.first_are ∙ sym o.names in
@@ -227,8 +233,8 @@ own_declared laws is_file includes bytes p a =
       are = names ∙ o.names;
     }
 
-pub few_declared : TokenLaws → (includes : Includes) (bytes : List ℕ) (p : Whole) → IsPlainRead includes bytes (Ok p) → length p.names ≤ 48
-few_declared laws includes bytes p a = subst (λ (ns : List (List ℕ)). length ns ≤ 48) (sym (same_names includes bytes p a)) (own_read laws includes bytes p a).few
+pub few_declared : TokenLaws → BlockLaws → (includes : Includes) (bytes : List ℕ) (p : Whole) → IsPlainRead includes bytes (Ok p) → length p.names ≤ 48
+few_declared laws blocks includes bytes p a = subst (λ (ns : List (List ℕ)). length ns ≤ 48) (sym (same_names includes bytes p a)) (own_read laws blocks includes bytes p a).few
 
 -- ---- what reading a file over its own names answers
 

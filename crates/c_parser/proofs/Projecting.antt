@@ -28,7 +28,10 @@ use Rattle.c_grammar.specs.Facts.{Conditioned, IsFit, AreFit}
 use Rattle.c_grammar.specs.Constants.{is_name}
 use Rattle.c_grammar.specs.Kept.{kept}
 use Rattle.c_grammar.specs.Locals.{is_main, is_declaring, declarations_from, of_declarations}
+use Rattle.c_grammar.specs.Grammar.{Forms}
 use Rattle.c_grammar.specs.Within.{SpellsWithin, KeepsWithin, WithinIsFile}
+use Rattle.for_blocks.specs.Blocks.{unfolded}
+use Rattle.for_blocks.specs.Laws.{BlocksAreKept, BlocksFormTheFile}
 use Rattle.c_parser.specs.declared.family.Family.{Family}
 use Rattle.c_parser.specs.FamilyReading.{IsFamilyOf, context_of}
 use Rattle.c_parser.specs.Functions.{functions_of_bytes}
@@ -40,11 +43,12 @@ use Rattle.family_names.specs.Names as names
 use Rattle.c_parser.specs.Names.{name_of, names_of, declared_by, first_name_fault}
 use Rattle.c_parser.specs.Reading.{items_of, outside, AreAmong}
 use Rattle.c_parser.specs.Variants.{given_at, projection, starting_at, truths_in, names_in, TextsSpellProjections, VariantsAreTexts, FamilyNamesAreFew, VariantsDeclareAmong, VariantsAreRead, FamiliesHaveTexts}
-use Rattle.c_parser.proofs.FamilyAnswers.{NamesOccur}
+use Rattle.c_parser.proofs.FamilyAnswers.{NamesStandInBlocks}
 use Rattle.c_parser.proofs.FamilyNames.{family_distinct}
 use Rattle.c_parser.proofs.FamilyOnce.{HasValues, has_values}
 use Rattle.c_parser.proofs.AmongNumbers.{is_same}
 use Rattle.c_parser.proofs.FewNames.{few_names}
+use Rattle.c_parser.proofs.FirstOccurrences.{names_below}
 use Rattle.c_parser.proofs.KeptItems.{fit_kept}
 use Rattle.c_grammar.proofs.Apart.{directives_apart}
 use Rattle.c_grammar.proofs.Beside.{directives_beside}
@@ -131,24 +135,13 @@ texts laws dialect model bytes text f values o q =
 
 -- ---- the names
 
-pub few : NamesOccur → FamilyNamesAreFew
-few occur dialect model bytes f o =
+pub few : NamesStandInBlocks → FamilyNamesAreFew
+few stand dialect model bytes f o =
     let l = o.accepted.listed in
     let same = names_are dialect model bytes f o in (
-      subst (λ (ns : List (List ℕ)). length ns ≤ 48) (sym same) (few_names (context_of model o.known.atoms o.known.formulas o.accepted.listed.names o.known.functions) l.items (length l.names) o.accepted.names (λ x lt. occur dialect (plain model) bytes o.accepted.are.told l x o.accepted.are.items lt)),
+      subst (λ (ns : List (List ℕ)). length ns ≤ 48) (sym same) (few_names (context_of model o.known.atoms o.known.formulas o.accepted.listed.names o.known.functions) (unfolded l.items) (length l.names) o.accepted.names (λ x lt. stand dialect (plain model) bytes o.accepted.are.told l x o.accepted.are.items lt)),
       subst AreDistinct (sym same) (family_distinct dialect (plain model) bytes o.accepted.are.told l o.accepted.are.items),
     )
-
-name_below : (count : ℕ) (s : Sign) (x : ℕ) (ns : List ℕ) → IsFit count s → (list_any (nat_eq x) ns ≡ true → x < count) → list_any (nat_eq x) (name_of s ++ ns) ≡ true → x < count
-name_below count (signs.Name n) x ns f go h = elim (nat_eq x n) as (λ b. nat_eq x n ≡ b → (b || list_any (nat_eq x) ns) ≡ true → x < count) [
-  | true ↦ λ e k. subst (λ (m : ℕ). m < count) (sym (is_same x n e)) f
-  | false ↦ λ e k. go k
-] refl h
-name_below count _ x ns f go h = go h
-
-names_below : (count : ℕ) (xs : List Item) (x : ℕ) → AreFit count xs → list_any (nat_eq x) (names_of xs) ≡ true → x < count
-names_below count [] x f h = absurd cc
-names_below count (y ∷ ys) x f h = name_below count y.sign x (names_of ys) f.0 (names_below count ys x f.1) h
 
 declarations_fit : (count : ℕ) (main declaring : Bool) (xs : List Item) → AreFit count xs → AreFit count (declarations_from main declaring xs)
 declarations_fit count main declaring [] f = tt
@@ -160,7 +153,7 @@ declarations_fit count main declaring (y ∷ ys) f =
     ]
 
 declared_below : (count : ℕ) (xs : List Item) (x : ℕ) → AreFit count xs → list_any (nat_eq x) (declared_by xs) ≡ true → x < count
-declared_below count xs x f h = names_below count (of_declarations xs) x (declarations_fit count false false xs f) h
+declared_below count xs x f h = names_below count (of_declarations xs) (declarations_fit count false false xs f) x h
 
 abbrev listed_ok : Listed → Result Listed (FileCode × Place)
 listed_ok l = Ok l
@@ -188,6 +181,11 @@ pub record ProgramLaws : Type 0 where
   pub starts : ValuesAreStarts
   pub enough : ConditionsAreEnough
 
+-- and of loops that declare variables
+pub record LoopLaws : Type 0 where
+  pub file : BlocksFormTheFile
+  pub kept : BlocksAreKept
+
 -- the program of a configuration has the features' values as start values
 starts : TextLaws → ProgramLaws → (dialect : Dialect) (model : Model) (bytes : List ℕ) (f : Family) (values : List ℤ) → (o : IsFamilyOf dialect model bytes f) → IsValid (plain model) values
     → projection f (truths_in f values) ≡ with_presets (presets (uses_of model.features (names_in f)) values) (projected_program (truths_at values o.accepted.are.told.conditions) o.spelled)
@@ -208,8 +206,8 @@ starts laws programs dialect model bytes f values o v =
     ∙ ap (λ (ns : List (List ℕ)). with_presets (presets (uses_of model.features ns) values) (projected_program (truths_at values o.accepted.are.told.conditions) o.spelled)) (sym names)
 
 -- the values from outside are those of the features that are used
-outside_are : NamesOccur → (dialect : Dialect) (model : Model) (bytes : List ℕ) (f : Family) (values : List ℤ) → (o : IsFamilyOf dialect model bytes f) → AreOutside (context_of model o.known.atoms o.known.formulas o.accepted.listed.names o.known.functions) (outside (given_at model (functions_of_bytes bytes) f values))
-outside_are occur dialect model bytes f values o =
+outside_are : NamesStandInBlocks → (dialect : Dialect) (model : Model) (bytes : List ℕ) (f : Family) (values : List ℤ) → (o : IsFamilyOf dialect model bytes f) → AreOutside (context_of model o.known.atoms o.known.formulas o.accepted.listed.names o.known.functions) (outside (given_at model (functions_of_bytes bytes) f values))
+outside_are stand dialect model bytes f values o =
     let context = context_of model o.known.atoms o.known.formulas o.accepted.listed.names o.known.functions in
     let l = o.accepted.listed in
     record {
@@ -217,26 +215,31 @@ outside_are occur dialect model bytes f values o =
       locals = refl;
       constants = refl;
       values = λ n. subst (λ (ns : List (List ℕ)). list_any (nat_eq n) (map (λ v. v.0) (presets (uses_of model.features ns) values)) ≡ names.is_value (context_of model o.known.atoms o.known.formulas o.accepted.listed.names o.known.functions) n) (sym (names_are dialect model bytes f o))
-          (numbers_of_values context l.items values o.accepted.names (λ x lt. occur dialect (plain model) bytes o.accepted.are.told l x o.accepted.are.items lt) n);
+          (numbers_of_values context (unfolded l.items) values o.accepted.names (λ x lt. stand dialect (plain model) bytes o.accepted.are.told l x o.accepted.are.items lt) n);
     }
 
-pub read : NamesOccur → TextLaws → ProgramLaws → VariantsArePlain → VariantsAreRead
-read occur laws programs are_plain dialect model bytes text f values o v q includes =
+pub read : NamesStandInBlocks → TextLaws → ProgramLaws → LoopLaws → VariantsArePlain → VariantsAreRead
+read stand laws programs loops are_plain dialect model bytes text f values o v q includes =
     let l = o.accepted.listed in
     let told = o.accepted.are.told in
     let truths = truths_at values told.conditions in
     let context = context_of model o.known.atoms o.known.formulas l.names o.known.functions in
-    let file = programs.is_file l.names l.items o.spelled o.accepted.spelled in
-    let fine : first_name_fault (outside (given_at model (functions_of_bytes bytes) f values)) (kept (names.truths_at (context_of model o.known.atoms o.known.formulas o.accepted.listed.names o.known.functions) values) o.accepted.listed.items) ≡ None =
-    kept_fine context (outside (given_at model (functions_of_bytes bytes) f values)) l.items values (outside_are occur dialect model bytes f values o) (directives_apart l.items file.file file.forms) (directives_outside l.items file.file file.forms) (directives_level l.items file.file file.forms) (directives_beside l.items file.file file.forms) o.accepted.names v
-    (main_stays (names.truths_at context values) file.forms) in
+    let blocks = unfolded l.items in
+    let file = o.accepted.spelled.file in
+    let forms : Forms (unfolded o.accepted.listed.items) o.accepted.spelled.file = loops.file l.items file o.accepted.spelled.forms in
+    let given = given_at model (functions_of_bytes bytes) f values in
+    let fine : first_name_fault (outside (given_at model (functions_of_bytes bytes) f values)) (kept (names.truths_at (context_of model o.known.atoms o.known.formulas o.accepted.listed.names o.known.functions) values) (unfolded o.accepted.listed.items)) ≡ None =
+    kept_fine context (outside given) blocks values (outside_are stand dialect model bytes f values o) (directives_apart blocks file forms) (directives_outside blocks file forms) (directives_level blocks file forms) (directives_beside blocks file forms) o.accepted.names v
+    (main_stays (names.truths_at context values) forms) in
+    let fine_there : first_name_fault (outside (given_at model (functions_of_bytes bytes) f values)) (kept (truths_at values o.accepted.are.told.conditions) (unfolded o.accepted.listed.items)) ≡ None =
+    subst (λ (ts : List Bool). first_name_fault (outside (given_at model (functions_of_bytes bytes) f values)) (kept ts (unfolded o.accepted.listed.items)) ≡ None) (o.accepted.are.conditions.truths values) fine in
     record {
       spelled = projected_program truths o.spelled;
       accepted = record {
         listed = record { names = names_in f; items = kept truths l.items };
         are = stays laws are_plain dialect model bytes text f truths o (at_conditions laws dialect model bytes text f values o q) includes;
         spelled = stays_spelled programs.keeps dialect model bytes f truths o;
-        names = subst (λ (ts : List Bool). first_name_fault (outside (given_at model (functions_of_bytes bytes) f values)) (kept ts o.accepted.listed.items) ≡ None) (o.accepted.are.conditions.truths values) fine;
+        names = ap (first_name_fault (outside given)) (sym (loops.kept l.items file truths o.accepted.spelled.forms)) ∙ fine_there;
       };
       is = starts laws programs dialect model bytes f values o v;
     }

@@ -19,6 +19,7 @@ use Rattle.c_grammar.specs.Within.{SpellsWithin}
 use Rattle.c_grammar.specs.Laws.{ReadsWithin, StopsWrong, StopsDeep}
 use Rattle.item_reader.specs.Reading.{IsWrongAt, IsDeepAt}
 use Rattle.feature_values.specs.Declarators.{with_presets}
+use Rattle.for_blocks.specs.Blocks.{unfolded}
 use Rattle.c_parser.specs.Items.{Listed}
 use Rattle.c_parser.specs.Names.{first_name_fault}
 use Rattle.cpp_lines.specs.Whole.{file_place}
@@ -99,14 +100,14 @@ abbrev preset_or : Given → Option (FileCode × Place) → Whole → Answer
 preset_or given fault p = with_names fault (with_presets given.values p)
 
 abbrev answer_over : Given → Listed → Place → Answer
-answer_over given l end = and_then (spelled_by (wrong_code l.items) l end) (preset_or given (first_name_fault (outside given) l.items))
+answer_over given l end = and_then (spelled_by (wrong_code l.items) l end) (preset_or given (first_name_fault (outside given) (unfolded l.items)))
 
 abbrev answer : Includes → Given → List ℕ → Answer
 answer includes given bytes = and_then (items_of includes given.functions given.names bytes) (λ l. answer_over given l (end_place bytes))
 
-named : GrammarLaws → (given : Given) (l : Listed) (end : Place) (p : Whole) (fault : Option (FileCode × Place)) → SpellsWithin l.names p l.items → first_name_fault (outside given) l.items ≡ fault → answer_over given l end ≡ preset_or given fault p
+named : GrammarLaws → (given : Given) (l : Listed) (end : Place) (p : Whole) (fault : Option (FileCode × Place)) → SpellsWithin l.names p l.items → first_name_fault (outside given) (unfolded l.items) ≡ fault → answer_over given l end ≡ preset_or given fault p
 named laws given l end p fault s e =
-    ap (λ (x : Answer). and_then x (preset_or given (first_name_fault (outside given) l.items))) (program_spelled laws (wrong_code l.items) l end p s) ∙ ap (λ (o : Option (FileCode × Place)). preset_or given o p) e
+    ap (λ (x : Answer). and_then x (preset_or given (first_name_fault (outside given) (unfolded l.items)))) (program_spelled laws (wrong_code l.items) l end p s) ∙ ap (λ (o : Option (FileCode × Place)). preset_or given o p) e
 
 -- an item is wrong or too deep, or a name has a fault
 abbrev Refuses : Includes → Given → Listed → Place → FileCode × Place → Type 0
@@ -114,9 +115,9 @@ Refuses includes given l end fault = HasWrong l end fault ⊎ (HasDeep l end fau
 
 refused_answer : GrammarLaws → (includes : Includes) (given : Given) (l : Listed) (end : Place) (fault : FileCode × Place) → Refuses includes given l end fault → answer_over given l end ≡ Err fault
 refused_answer laws includes given l end fault (inl w) =
-    ap (λ (x : Answer). and_then x (preset_or given (first_name_fault (outside given) l.items))) (wrong_spelled laws (wrong_code l.items) l end w.position w.wrong) ∙ ap (λ (f : FileCode × Place). Err f) (sym w.is)
+    ap (λ (x : Answer). and_then x (preset_or given (first_name_fault (outside given) (unfolded l.items)))) (wrong_spelled laws (wrong_code l.items) l end w.position w.wrong) ∙ ap (λ (f : FileCode × Place). Err f) (sym w.is)
 refused_answer laws includes given l end fault (inr (inl w)) =
-    ap (λ (x : Answer). and_then x (preset_or given (first_name_fault (outside given) l.items))) (deep_spelled laws (wrong_code l.items) l end w.position w.deep) ∙ ap (λ (f : FileCode × Place). Err f) (sym w.is)
+    ap (λ (x : Answer). and_then x (preset_or given (first_name_fault (outside given) (unfolded l.items)))) (deep_spelled laws (wrong_code l.items) l end w.position w.deep) ∙ ap (λ (f : FileCode × Place). Err f) (sym w.is)
 refused_answer laws includes given l end fault (inr (inr w)) = named laws given l end w.program (Some fault) w.spelled w.names
 
 is_answer : GrammarLaws → (includes : Includes) (given : Given) (bytes : List ℕ) (r : Answer) → IsPlainReadOver includes given bytes r → answer includes given bytes ≡ r
@@ -136,15 +137,15 @@ reads_once laws includes given bytes r s h k = sym (is_answer laws includes give
 
 -- what stands in an answer behind the items
 abbrev IsJudged : Includes → Given → Listed → Place → Answer → Type 0
-IsJudged includes given l end (Ok p) = SpellsWithin l.names p l.items × (first_name_fault (outside given) l.items ≡ None)
+IsJudged includes given l end (Ok p) = SpellsWithin l.names p l.items × (first_name_fault (outside given) (unfolded l.items) ≡ None)
 IsJudged includes given l end (Err fault) = Refuses includes given l end fault
 
-with_fault : (includes : Includes) (given : Given) (l : Listed) (end : Place) (p : Whole) → SpellsWithin l.names p l.items → (o : Option (FileCode × Place)) → first_name_fault (outside given) l.items ≡ o → (r : Answer) × IsJudged includes given l end r
+with_fault : (includes : Includes) (given : Given) (l : Listed) (end : Place) (p : Whole) → SpellsWithin l.names p l.items → (o : Option (FileCode × Place)) → first_name_fault (outside given) (unfolded l.items) ≡ o → (r : Answer) × IsJudged includes given l end r
 with_fault includes given l end p s None e = (Ok p, (s, e))
 with_fault includes given l end p s (Some fault) e = (Err fault, inr (inr (record { program = p; spelled = s; names = e })))
 
 by_machine : GrammarLaws → (includes : Includes) (given : Given) (l : Listed) (end : Place) (g : Came) → guarded start 0 l.items ≡ g → (r : Answer) × IsJudged includes given l end r
-by_machine laws includes given l end (Ok f) e = with_fault includes given l end (whole_of l.names l.items f) (record { file = f; forms = (laws.reads l.items f).0 e; is = refl }) (first_name_fault (outside given) l.items) refl
+by_machine laws includes given l end (Ok f) e = with_fault includes given l end (whole_of l.names l.items f) (record { file = f; forms = (laws.reads l.items f).0 e; is = refl }) (first_name_fault (outside given) (unfolded l.items)) refl
 by_machine laws includes given l end (Err (limits.Wrong k)) e =
     let b = (laws.stops_wrong l.items k).0 e in
     let w = b.0 in (

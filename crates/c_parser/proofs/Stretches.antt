@@ -9,7 +9,7 @@ use Rattle.c_grammar.specs.declared.items.Item.{Item}
 use Rattle.c_grammar.specs.declared.items.Sign.{Sign}
 use Rattle.c_grammar.specs.declared.items.Sign.TheVariants as signs
 use Rattle.c_grammar.specs.Constants.{kind_behind}
-use Rattle.c_grammar.specs.Grammar.{at, Prefix, Positive, Negative, Inverse, prefix_sign, Expresses, number, name, group, prefix, loose, binary, Update, Sum, Difference, Product, Quotient, Remainder, update_sign, Count, Raise, Lower, count_sign, Callable, of_input, of_function, Changes, assignment, input_taken, compound_assignment, count_behind, count_before, Clause, no_clause, clause, Tests, no_test, test, Qualifier, Qualified, Shape, Listed, Stated, Chained, Locals, Writes, none, more, choice, local, static_local, last_local, next_local, ends, otherwise, elif, change, call, void_call, assert, skip, block, while, for, do_while, break, continue, return, if_then, if_else, with_true, with_false, is_group, Declares, Vars, Gap, Gaps, GapRest, Empty, no_more, empty_section, empty_end, empty_else, empty_elif, Body, body}
+use Rattle.c_grammar.specs.Grammar.{at, Prefix, Positive, Negative, Inverse, prefix_sign, Expresses, number, name, group, prefix, loose, binary, Update, Sum, Difference, Product, Quotient, Remainder, update_sign, Count, Raise, Lower, count_sign, Callable, of_input, of_function, Changes, assignment, input_taken, compound_assignment, count_behind, count_before, Clause, no_clause, clause, Tests, no_test, test, Qualifier, Qualified, Shape, Listed, Stated, Chained, Locals, Writes, none, more, choice, local, static_local, last_local, next_local, ends, otherwise, elif, change, call, void_call, assert, skip, block, while, for, declaring_for, do_while, break, continue, return, if_then, if_else, with_true, with_false, is_group, Declares, Vars, Gap, Gaps, GapRest, Empty, no_more, empty_section, empty_end, empty_else, empty_elif, Body, body}
 use Rattle.c_grammar.specs.Groups.{guarded_by}
 use Rattle.c_grammar.specs.Kept.{directive_of}
 use Rattle.c_grammar.specs.Locals.{is_declaring}
@@ -129,7 +129,7 @@ pub data Stretch : (later : Bool) → List Guard → List Item → List Declared
   behind : (gs : List Guard) (ts : List Item) {us : List Item} {ds : List Declared} → are_calm ts ≡ true → Stretch false gs us ds → Stretch false gs (ts ++ us) ds
   before : (gs : List Guard) (us : List Item) {ts : List Item} {ds : List Declared} → Stretch false gs ts ds → are_calm us ≡ true → Stretch false gs (ts ++ us) ds
   both : (gs : List Guard) {ts us : List Item} {ds es : List Declared} → Stretch false gs ts ds → Stretch false gs us es → Stretch false gs (ts ++ us) (ds ++ es)
-  declarators : (gs : List Guard) {ts us vs : List Item} {c : Code} {kind : Qualifier} {es : List Declared} → Qualified kind ts → (v : Writes (Locals kind) us c) → Stretch false gs vs es → Stretch false gs (ts ++ (us ++ vs)) (locals_in gs v ++ es)
+  declarators : (gs : List Guard) {ts us vs : List Item} {c : Code} {kind each : Qualifier} {es : List Declared} → Qualified kind ts → (v : Writes (Locals each) us c) → Stretch false gs vs es → Stretch false gs (ts ++ (us ++ vs)) (locals_in gs v ++ es)
   statics : (gs : List Guard) {ts us vs : List Item} {ds es : List Declared} {kind : Qualifier} → Qualified kind ts → Declares (Vars kind []) us ds → Stretch false gs vs es → Stretch false gs (ts ++ (us ++ vs)) (guarded_by gs ds ++ es)
   groups : (gs : List Guard) (p : Place) (n : ℕ) {ts us vs : List Item} {ds es fs : List Declared} → Stretch false (with_true gs n) ts ds → Stretch true (with_false gs n) us es → Stretch false gs vs fs → Stretch false gs (at p (signs.GroupIf n) ∷ (ts ++ (us ++ vs))) (ds ++ (es ++ fs))
   end_group : (gs : List Guard) (p : Place) → Stretch true gs (at p signs.GroupEnd ∷ []) []
@@ -166,6 +166,9 @@ stretch_of gs (block p q s) = behind gs (at p signs.LeftBrace ∷ []) refl (befo
 stretch_of gs (while p q r {b} {ts} e s) = behind gs (at p signs.While ∷ at q signs.Open ∷ []) refl (behind gs ts (expression_calm e) (behind gs (at r signs.Close ∷ []) refl (stretch_of gs s)))
 stretch_of gs (for p q r z {b} {ts} {us} {vs} {ws} a t d s) =
     subst (λ (l : List Item). Stretch false gs l (locals_in gs s)) (for_is p q r z ts us vs ws) (behind gs (for_head p q r z ts us vs) (header_calm p q r z a t d) (stretch_of gs s))
+stretch_of gs (declaring_for p q z {b} {ts} {ds} {us} {vs} {ws} y v t d s) =
+    behind gs (at p signs.For ∷ at q signs.Open ∷ []) refl
+    (declarators gs y v (behind gs us (tests_calm t) (behind gs vs (clause_calm d) (behind gs (at z signs.Close ∷ []) refl (stretch_of gs s)))))
 stretch_of gs (do_while p q r z t {b} {ts} {us} {x} s e) =
     behind gs (at p signs.Do ∷ []) refl (before gs (at q signs.While ∷ at r signs.Open ∷ x ∷ (us ++ at z signs.Close ∷ at t signs.Semicolon ∷ [])) (stretch_of gs s)
     (calm_both (x ∷ us) (at z signs.Close ∷ at t signs.Semicolon ∷ []) (expression_calm e) refl))

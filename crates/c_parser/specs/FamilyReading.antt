@@ -17,6 +17,7 @@ use Rattle.feature_values.specs.declared.feature_uses.Use.{Use}
 use Rattle.feature_values.specs.Declarators.{with_values}
 use Rattle.feature_values.specs.Values.{uses_of, tests_of}
 use Rattle.family_names.specs.Names.{NameContext, IsFirstNameFault}
+use Rattle.for_blocks.specs.Blocks.{unfolded}
 use Rattle.c_parser.specs.declared.family_items.Conditions.{Conditions}
 use Rattle.c_parser.specs.declared.family.Family.{Family}
 use Rattle.c_parser.specs.Functions.{own_functions}
@@ -35,12 +36,13 @@ abbrev pub context_of : Model → List Atom → List Formula → List (List ℕ)
 context_of model atoms conditions names functions =
     record { model = model; atoms = atoms; conditions = conditions; names = names; functions = functions }
 
--- files with groups over a model; their functions and conditions are known besides
+-- files with groups over a model; their functions and conditions are known besides. Names are judged as in files without groups, where a `for`
+-- that declares variables stands as a block
 abbrev pub families_over : Dialect → Model → FileMeaning Conditions
 families_over dialect model = record {
   refused = HasEarlyFault dialect (plain model);
   listed = IsListedFamily dialect (plain model);
-  named = λ l known fault. IsFirstNameFault (context_of model known.atoms known.formulas l.names known.functions) l.items fault;
+  named = λ l known fault. IsFirstNameFault (context_of model known.atoms known.formulas l.names known.functions) (unfolded l.items) fault;
 }
 
 -- the features that a program names

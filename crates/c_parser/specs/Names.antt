@@ -1,7 +1,7 @@
 -- The names that the items of a file without groups declare, and the first fault of a name (ISO/IEC 9899:2011, 6.5.1, 6.5.2.2 and 6.7).
 -- Before `main` each name is that of a declaration, and in it one behind a word of a type, `const` or a comma; the others are used. The scope
 -- of a name that `main` declares begins behind its declarator and ends with its block (6.2.1); in it the name is not declared again, and a
--- static one (6.2.4p3) is the only one of its name in `main`.
+-- static one (6.2.4p3) is the only one of its name in `main`. Among the items a `for` that declares variables stands as a block (6.8.5p5).
 -- Functions are declared before `main`, and called in it.
 use Rattle.std.specs.Prelude.{ℕ, ◌+◌, nat_eq, nat_lt, Bool, true, false, not, ◌&&◌, ◌||◌, List, [], ◌∷◌, ◌++◌, map, get_or, Option, Some, None, option_map, if◌then◌else◌}
 use Rattle.std.specs.List.{list_any}

@@ -17,6 +17,7 @@ use Rattle.c_tree.specs.declared.tree.Program.{Program}
 use Rattle.c_grammar.specs.declared.items.Item.{Item}
 use Rattle.c_grammar.specs.Grammar.{File, Forms}
 use Rattle.c_grammar.specs.LocalsOf.{declared_in}
+use Rattle.for_blocks.specs.Blocks.{unfolded}
 use Rattle.c_parser.specs.Functions.{functions_of_bytes}
 use Rattle.c_parser.specs.Items.{Listed, listed}
 use Rattle.feature_values.specs.Declarators.{with_presets}
@@ -60,12 +61,13 @@ only_names functions names = record { functions = functions; names = names; vari
 abbrev pub outside : Given → Outside
 outside given = record { variables = given.variables; locals = given.locals; constants = given.constants; values = map (λ v. v.0) given.values }
 
--- files without groups; nothing is known besides
+-- files without groups; nothing is known besides. The scope of a variable that a `for` declares ends with its statement (ISO/IEC 9899:2011,
+-- 6.8.5p5), so names are judged where such a statement stands as a block
 abbrev pub plain_files : Includes → Given → FileMeaning ⊤
 plain_files includes given = record {
   refused = λ bytes fault. items_of includes given.functions given.names bytes ≡ Err fault;
   listed = λ bytes l known. items_of includes given.functions given.names bytes ≡ Ok l;
-  named = λ l known fault. first_name_fault (outside given) l.items ≡ fault;
+  named = λ l known fault. first_name_fault (outside given) (unfolded l.items) ≡ fault;
 }
 
 -- the bytes are read as this program: what their items spell, with the values from outside as start values

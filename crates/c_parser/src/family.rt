@@ -33,6 +33,8 @@ use fam_outer::{Dialect, FileCode, FileRefusal, MOST_TESTS, MOST_VALUE_TESTS, No
 use family_names::{NameContext, first_name_fault};
 use feature_values::laws::{uses_stand, values_keep_programs};
 use feature_values::{add_tests, add_values, uses};
+use for_blocks::laws::names_stay;
+use for_blocks::unfolded;
 use std::alloc::Global;
 
 /// A family: the program of a file with groups, the conditions of its group directives in their order with the tests of the
@@ -89,7 +91,8 @@ impl FileKind for FamilyFiles<'_> {
             names: names.items(),
             functions: known.functions.items(),
         };
-        first_name_fault(alloc, &context, items)
+        let blocks = unfolded(alloc, items)?;
+        first_name_fault(alloc, &context, blocks.as_slice())
     }
 }
 
@@ -146,10 +149,11 @@ fn with_values(
 /// directives; at the first token or group directive, or the end, at which no file goes on, `GroupInsideStatement` where it
 /// is a group directive, or an `else` directly behind one, and else `Syntax`; `TooDeep` at the first at which some file goes
 /// on, but none within the limits (`read_plain` has them; a group and each `#elif` count as well); and then the first
-/// fault of a name as `family_names::first_name_fault` has it, with the least valid configuration as its example. So a name
-/// that `main` declares is `Undeclared` up to the end of its declarator and behind its block, unless each valid configuration
-/// that keeps the use has another declaration of it in scope; it is `Twice` where one has another in scope at the declaration;
-/// and the 17th that `main` declares is one of `TooManyVariables`. `NoMemory` is want of memory.
+/// fault of a name as `family_names::first_name_fault` has it, with the least valid configuration as its example, where a
+/// `for` that declares variables stands as a block, since the scope of these ends with its statement (6.8.5p5). So a name that
+/// `main` declares is `Undeclared` up to the end of its declarator and behind its block, unless each valid configuration that
+/// keeps the use has another declaration of it in scope; it is `Twice` where one has another in scope at the declaration; and
+/// the 17th that `main` declares is one of `TooManyVariables`. `NoMemory` is want of memory.
 pub fn read_family(
     alloc: Global,
     dialect: Dialect,
@@ -171,6 +175,7 @@ pub fn read_family(
     within_the_limits_is_a_file();
     files_are_programs();
     family_names_occur();
+    names_stay();
     uses_stand();
     values_keep_programs();
     let (code, known) = read_file(alloc, &FamilyFiles { dialect, model }, bytes)?;

@@ -22,6 +22,7 @@ ghost use Rattle.c_parser.specs.Reading.{Given, IsPlainRead, IsPlainReadOver, it
 use c_grammar::laws::{reads_within_the_limits, within_the_limits_is_a_file};
 use c_tokens::laws::{lines_are_apart, literals_are_numbers, one_reading, reads_longest_lexemes};
 use fam_outer::places_rise;
+use for_blocks::laws::names_stay;
 
 /// A file is read in one way, over whatever is given.
 pub fn reads_at_most_once()
@@ -52,6 +53,7 @@ pub fn names_are_declared()
     reads_longest_lexemes();
     literals_are_numbers();
     places_rise();
+    names_stay();
 }
 
 /// What stands as declared in phase 6, each name before `main` and the names of declarations in it, is what the grammar

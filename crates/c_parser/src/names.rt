@@ -205,7 +205,8 @@ fn judge(
     }
 }
 
-/// The first fault of a name among the items of a file, with its place; no name has a value from outside.
+/// The first fault of a name among the items of a file, with its place, where each `for` that declares variables stands as a
+/// block; no name has a value from outside.
 #[tactic(auto, unfolding(crate::specs::Names::first_name_fault))]
 pub(crate) fn first_name_fault(
     alloc: Global,

@@ -25,6 +25,8 @@ use c_tree::{Names, Program};
 use cpp_lines::laws::places_stay;
 use cpp_lines::{blanked_file, code_text, plain_lines};
 use fam_outer::{FILE_BYTES, FileCode, FileRefusal, Includes, NoMemory, Place, Text, places_rise};
+use for_blocks::laws::names_stay;
+use for_blocks::unfolded;
 use std::alloc::Global;
 
 /// The code of a file: its bytes without comments, and of its directive lines the definitions alone, so that all places
@@ -130,7 +132,8 @@ impl FileKind for PlainFiles<'_> {
         items: &[Item],
         _known: &(),
     ) -> Result<Option<(FileCode, Place)>, NoMemory> {
-        first_name_fault(alloc, self.limits, items)
+        let blocks = unfolded(alloc, items)?;
+        first_name_fault(alloc, self.limits, blocks.as_slice())
     }
 }
 
@@ -185,29 +188,31 @@ fn own_names(
 
 /// The program that a file spells. Over one list of names, a list of items spells at most one.
 ///
-/// A file is a list of declarations and then `main`, of the grammar of `c_grammar`, without groups: assignments, `x++`
-/// and `x += e` and the like, `input()`, `assert`, `if`, `while`, blocks, empty statements, and declarations among the
-/// statements of `main` and of its blocks, with the operators `! - + * / % < <= > >= == != && ||` of C (ISO/IEC 9899:2011,
-/// 6.5, 6.7 and 6.8). In `main` a declaration `int x = e;` is read as the assignment `x = e;`, and `int x = input();` as an
-/// input; so is `int x;`, whose value is indeterminate, which is any value (6.7.9p10). A list, as in `int x = 1, y;`, is read
-/// one by one, each at its name. Comments are blanked and `#include <assert.h>` is left out, and where includes are skipped
-/// each other one too. The names of the program are those that the file declares: at most 16 variables before `main`, behind
-/// them at most 16 that `main` declares, with `const` or without, and behind these at most 16 constants before `main`, each in
-/// the order of their first declaration, which decides where a name stands. A name without a start value starts at 0. The
+/// A file is a list of declarations and then `main`, of the grammar of `c_grammar`, without groups: assignments, `x++` and
+/// `x += e` and the like, `input()`, `assert`, `if`, `while`, `do`, `for`, `break`, `continue`, `return`, blocks, empty
+/// statements, and declarations among the statements of `main` and of its blocks, with the operators
+/// `! - + * / % < <= > >= == != && ||` of C (ISO/IEC 9899:2011, 6.5, 6.7 and 6.8). In `main` a declaration `int x = e;` is
+/// read as the assignment `x = e;`, and `int x = input();` as an input; so is `int x;`, whose value is indeterminate, which
+/// is any value (6.7.9p10). A list, as in `int x = 1, y;`, is read one by one, each at its name. A `for` may declare
+/// variables, each with an initialiser, as `for (int i = 0, j = 1; e; B) S`: it is read as a block around the declaration
+/// and the loop. Comments are blanked and `#include <assert.h>` is left out, and where includes are skipped each other one
+/// too. The names of the program are those that the file declares: at most 16 variables before `main`, behind them at most
+/// 16 that `main` declares, with `const` or without, and behind these at most 16 constants before `main`, each in the order
+/// of their first declaration, which decides where a name stands. A name without a start value starts at 0. The
 /// declarations of one name in blocks of which none is in another are one name of the program.
 ///
 /// The earliest of these phases that has a fault decides, and in a phase the first place: `TooLong` at 1:1 for more than
 /// 1,048,576 bytes; `OpenComment`, `Splice` and `CommentAtDirective` as `cpp_lines::blank_comments` has them; `Directive`
-/// and `GroupHere` as `cpp_lines::plain_lines` has them; `StrayByte` and `Literal` as `c_tokens::tokens` has them;
-/// `Syntax` at the first token, or the end, at which no file goes on, and `TooDeep` at the first token at which some file
-/// goes on but none within the limits: an `if`, `while` or block with 64 of these around it, or the 65th operator or
-/// opening parenthesis of an expression; and then `Undeclared` at a name that is used where no declaration of it is in scope:
-/// the scope of a name that `main` declares begins behind its declarator, so not in `int x = x;`, and ends with its block, and
-/// that of another goes on to the end of the file (6.2.1); `Twice` at a declaration of a name where another one of it is in
-/// scope, also where one or both stand in blocks; `TooManyVariables` at the declaration of the 17th variable before `main`, or
-/// of the 17th name that `main` declares; `TooManyConstants` at that of the 17th constant before `main`; and `ChangedConstant`
-/// at a name that is changed where a declaration of it as a constant is in scope, which its own initialiser doesn't do.
-/// `NoMemory` is want of memory.
+/// and `GroupHere` as `cpp_lines::plain_lines` has them; `StrayByte` and `Literal` as `c_tokens::tokens` has them; `Syntax`
+/// at the first token, or the end, at which no file goes on, and `TooDeep` at the first token at which some file goes on
+/// but none within the limits: an `if`, a loop or a block with 64 of these around it, or the 65th operator or opening
+/// parenthesis of an expression; and then `Undeclared` at a name that is used where no declaration of it is in scope: the
+/// scope of a name that `main` declares begins behind its declarator, so not in `int x = x;`, and ends with its block, that
+/// of a variable that a `for` declares ends with its statement (6.8.5p5), and that of another name goes on to the end of
+/// the file (6.2.1); `Twice` at a declaration of a name where another one of it is in scope, also where one or both stand
+/// in blocks; `TooManyVariables` at the declaration of the 17th variable before `main`, or of the 17th name that `main`
+/// declares; `TooManyConstants` at that of the 17th constant before `main`; and `ChangedConstant` at a name that is changed
+/// where a declaration of it as a constant is in scope, which its own initialiser doesn't do. `NoMemory` is want of memory.
 pub fn read_plain(alloc: Global, includes: Includes, bytes: &[u8]) -> Result<Program, FileRefusal>
     ensures reads { specs.IsRead includes bytes.now result }
     ensures names { IfOk result (λ p. specs.AreDeclaredNames includes bytes.now (whole p).names) }
@@ -260,6 +265,7 @@ pub fn read_plain_with(
     ensures plain { IfOk result (λ p. IsPlainProgram (whole p)) }
 {
     spells_at_most_one();
+    names_stay();
     let limits = Limits {
         variables: 0,
         locals: 0,

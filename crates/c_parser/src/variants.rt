@@ -13,6 +13,7 @@ use cpp_lines::laws::{texts_are_read_once, variants_are_plain};
 use fam_outer::places_rise;
 use family_names::laws::names_are_judged_once;
 use feature_values::laws::{conditions_are_enough, values_are_starts};
+use for_blocks::laws::{blocks_form_the_file, names_stay};
 
 /// A file is read as one family, with one program and with one truth of each condition at each configuration, or it has one
 /// refusal. It is so over each model, and the same over models with the same features and the same constraints.
@@ -32,14 +33,15 @@ pub fn family_names_are_few()
     ensures { FamilyNamesAreFew }
 {
     family_names_occur();
+    names_stay();
 }
 
 /// Preprocessing and then reading is reading and then projecting. What stays of the text of an accepted family spells,
 /// over the family's names, the family's projection, but for the start values of features, for every list of truths of its
 /// conditions: so no variant is deeper than the limits. At a valid configuration that text is read over these names and the
 /// features' values as this program: so no name of a variant has a fault, and of each that a variant uses a declaration is in
-/// scope in it, behind the end of its declarator and before that of its block. The lines of an accepted family have none
-/// either, so `variant_text` has no refusal but want of memory.
+/// scope in it, behind the end of its declarator and before that of its block, or of the `for` that declares it. The lines of
+/// an accepted family have none either, so `variant_text` has no refusal but want of memory.
 pub fn variants_are_projections()
     ensures spelled { TextsSpellProjections }
     ensures texts { VariantsAreTexts }
@@ -60,4 +62,6 @@ pub fn variants_are_projections()
     values_are_starts();
     conditions_are_enough();
     family_names_occur();
+    names_stay();
+    blocks_form_the_file();
 }

@@ -66,7 +66,8 @@ pub record IsDeclaredOf (count : ℕ) (d : Declared) : Type 0 where
   pub value : IsInt d.value
 
 -- a well-formed program: at most 48 variables, start values within `int`, numbers of variables below their count,
--- literals of `int`, places that rise in the order of the text, and the limits of depth
+-- literals of `int`, places that rise in the order of the text, and the limits of depth. In a text at most 64 constructs stand
+-- in one another, and a `for` that declares variables is two statements here, a block and the loop in it.
 pub record IsProgram (p : Whole) : Type 0 where
   pub few : length p.names ≤ 48
   pub starts : length p.start ≡ length p.names
@@ -74,7 +75,7 @@ pub record IsProgram (p : Whole) : Type 0 where
   pub declared : All (IsDeclaredOf (length p.names)) p.declared
   pub names : IsCodeOf (length p.names) p.body
   pub rising : IsRising (program_places p)
-  pub nested : nesting p.body ≤ 64
+  pub nested : nesting p.body ≤ 128
   pub small : IsSmall p.body
 
 -- a plain program: no group of statements and no guarded declarator is left

@@ -37,6 +37,8 @@ use Rattle.c_parser.proofs.KeptItems.{text_read}
 use Rattle.c_parser.proofs.KeptTexts.{TextLaws, same_blanked, same_told, family_fit}
 use Rattle.c_parser.proofs.LineItems.{by_both}
 use Rattle.family_names.specs.Names.{IsFirstNameFault}
+use Rattle.for_blocks.specs.Blocks.{unfolded}
+use Rattle.for_blocks.specs.Laws.{OthersStay}
 use Rattle.family_generator.specs.Features.{generated_dialect, generated_features}
 use Rattle.family_generator.specs.Texts.{generated_text}
 use Rattle.family_generator.proofs.BlockTexts.{Block, AreBlocks, generated_blocks, are_blocks}
@@ -49,6 +51,7 @@ use Rattle.family_generator.proofs.Signs.{laid, laid_again, sign_in, place_in, b
 use Rattle.family_generator.proofs.Statements.{IsFormed, signs_formed}
 use Rattle.family_generator.proofs.FreeNames.{names_free, statements_own}
 use Rattle.family_generator.proofs.NameFaults.{no_fault}
+use Rattle.family_generator.proofs.NoLoops.{file_stays}
 
 -- what laws of lower crates say
 pub record Laws : Type 0 where
@@ -56,6 +59,7 @@ pub record Laws : Type 0 where
   pub reads : ReadsWithin
   pub stops_wrong : StopsWrong
   pub stops_deep : StopsDeep
+  pub others : OthersStay
 
 -- ---- an answer is not a fault
 
@@ -178,7 +182,7 @@ items_laid : (x y : ℕ) (bs : List Block) (xs : List Item) → map sign_in xs �
 items_laid x y bs xs e = sym (laid_again nowhere xs) ∙ ap (laid (place_in nowhere xs) 0) e
 
 no_name : (laws : Laws) (model : Model) (text : List ℕ) (bs : List Block) (told : Told) (l : Listed) (atoms : List Atom) (formulas : List Formula) (functions : List (List ℕ)) (fault : FileCode × Place) → Accepts laws model text bs → HasItems generated_dialect (plain model) text told l
-    → IsFirstNameFault (context_of model atoms formulas l.names functions) l.items (Some fault) → ⊥
+    → IsFirstNameFault (context_of model atoms formulas l.names functions) (unfolded l.items) (Some fault) → ⊥
 no_name laws model text bs told l atoms formulas functions fault a h n =
     let context = context_of model atoms formulas l.names functions in
     let x = first_in l.names in
@@ -187,7 +191,7 @@ no_name laws model text bs told l atoms formulas functions fault a h n =
     let are = signs_are laws model text bs told l a h in
     let free = names_free (context_of model atoms formulas l.names functions) bs l.items a.features (family_fit laws.texts generated_dialect (plain model) text told l h) are in
     not_none fault (no_fault context f x y (laid f 12 (blocks_signs x y 0 bs ++ signs.RightBrace ∷ [])) (Some fault) free (statements_own f x y bs)
-    (subst (λ (xs : List Item). IsFirstNameFault (context_of model atoms formulas l.names functions) xs (Some fault)) (items_laid x y bs l.items are) n))
+    (subst (λ (xs : List Item). IsFirstNameFault (context_of model atoms formulas l.names functions) xs (Some fault)) (ap unfolded (items_laid x y bs l.items are) ∙ file_stays laws.others f x y bs) n))
 
 no_item : (laws : Laws) (model : Model) (text : List ℕ) (bs : List Block) (fault : FileCode × Place) → Accepts laws model text bs → HasItemFault (families_over generated_dialect model) text fault → ⊥
 no_item laws model text bs fault a h =

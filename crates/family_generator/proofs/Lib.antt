@@ -13,4 +13,5 @@ pub mod NameFaults
 pub mod Lexed
 pub mod NoFunctions
 pub mod FreeNames
+pub mod NoLoops
 pub mod Accepted

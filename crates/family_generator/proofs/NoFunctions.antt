@@ -1,25 +1,24 @@
 -- Generated families declare no functions, since no name stands directly before `(` there.
-use Rattle.std.proofs.Common.{◌≡◌, ℕ, ◌+◌, ◌<◌, Bool, true, false, ◌||◌, ◌&&◌, List, [], ◌∷◌, ◌++◌, map, Option, Some, None, Ok, refl, sym, ap, ◌∙◌, arith}
+use Rattle.std.proofs.Common.{◌≡◌, ℕ, ◌+◌, Bool, true, false, ◌||◌, ◌&&◌, List, [], ◌∷◌, ◌++◌, map, Option, Some, None, Ok, refl, sym, ap, ◌∙◌, arith}
 use Rattle.std.specs.Prelude.{IfSome, if◌then◌else◌}
 use Rattle.std.proofs.lemmas.List.{map-append}
 use Rattle.c_tokens.specs.declared.token.Token.{Token}
 use Rattle.c_tokens.specs.declared.token.TokenKind.{TokenKind}
 use Rattle.c_tokens.specs.declared.token.TokenKind.TheVariants as kinds
 use Rattle.c_tokens.specs.Reading.{tokens_of}
-use Rattle.c_grammar.specs.declared.items.Item.{Item}
 use Rattle.c_grammar.specs.declared.items.Sign.{Sign}
 use Rattle.c_grammar.specs.declared.items.Sign.TheVariants as signs
 use Rattle.c_grammar.specs.Facts.{IsFit}
 use Rattle.cpp_lines.specs.Code.{code_of, code_piece}
 use Rattle.cpp_lines.specs.Lines.{pieces}
 use Rattle.cpp_lines.proofs.CodeLines.{code_pieces}
-use Rattle.c_parser.specs.Functions.{is_no_keyword, is_opening, is_name_token, is_opening_token, is_type_token, do_open, with_named, with_function, functions_from, functions_or_none, functions_of_code, own_functions}
+use Rattle.c_parser.specs.Functions.{is_no_keyword, is_opening, is_name_token, is_opening_token, is_type_token, do_open, with_named, functions_from, functions_or_none, functions_of_code, own_functions}
 use Rattle.c_parser.specs.Items.{with_name, word_sign, sign_of, lexeme_in, items_over}
 use Rattle.c_parser.specs.Signs.{keyword_of, mark_of, sign_in, marks}
 use Rattle.c_parser.proofs.Lexical.{IsConstant, TokenLaws, keyword_constant, unwrapped_constant, table_constant, marks_constant}
 use Rattle.c_parser.proofs.TokenLines.{LinesApart, item_below, alone, by_piece, lines_of_text}
 use Rattle.family_generator.proofs.BlockTexts.{Block, Switched, Bounded, Checked}
-use Rattle.family_generator.proofs.Lexed.{AreLexed, lexed, block_line_signs, blocks_line_signs, file_line_signs, below_same, signs_alone}
+use Rattle.family_generator.proofs.Lexed.{AreLexed, block_line_signs, blocks_line_signs, file_line_signs, below_same, signs_alone}
 use Rattle.family_generator.proofs.Signs as items
 
 abbrev is_name : Sign → Bool

@@ -5,7 +5,7 @@ use Rattle.c_tree.specs.declared.lists.Declared.{Declared}
 use Rattle.c_grammar.specs.declared.items.Sign.{Sign}
 use Rattle.c_grammar.specs.declared.items.Sign.TheVariants as signs
 use Rattle.c_grammar.specs.Grammar.{Qualifier, Unqualified}
-use Rattle.c_grammar.specs.Machine.{Leading, Sections, Stack, TypeWords, OneInt, OneSigned, WholeType, AfterType, after_type, behind_type, LocalType, local_type, behind_local_type, InStatic, BehindStaticType, static_type, behind_static_type, static_word, behind_static_word}
+use Rattle.c_grammar.specs.Machine.{Leading, Sections, Stack, Scope, TypeWords, OneInt, OneSigned, WholeType, AfterType, after_type, behind_type, LocalType, local_type, behind_local_type, InStatic, BehindStaticType, static_type, behind_static_type, static_word, behind_static_word}
 use Rattle.item_reader.specs.Views.{is_second_word}
 
 pub second_word : (lead : Leading) (secs : Sections) (ds : List Declared) (s : Sign) (words : TypeWords) → is_second_word s words ≡ true
@@ -21,17 +21,17 @@ no_second_word lead secs ds signs.Int OneSigned e = absurd cc
 no_second_word lead secs ds _ _ e = refl
 
 -- the same in `main`
-pub second_local_word : (kind : Qualifier) (outer : Stack) (p : Place) (s : Sign) (words : TypeWords) → is_second_word s words ≡ true
-    → local_type kind outer p s words ≡ Some (LocalType kind WholeType outer)
-second_local_word kind outer p signs.Signed OneInt e = refl
-second_local_word kind outer p signs.Int OneSigned e = refl
-second_local_word kind outer p _ _ e = absurd cc
+pub second_local_word : (kind : Qualifier) (scope : Scope) (p : Place) (s : Sign) (words : TypeWords) → is_second_word s words ≡ true
+    → local_type kind scope p s words ≡ Some (LocalType kind WholeType scope)
+second_local_word kind scope p signs.Signed OneInt e = refl
+second_local_word kind scope p signs.Int OneSigned e = refl
+second_local_word kind scope p _ _ e = absurd cc
 
-pub no_second_local_word : (kind : Qualifier) (outer : Stack) (p : Place) (s : Sign) (words : TypeWords) → is_second_word s words ≡ false
-    → local_type kind outer p s words ≡ behind_local_type kind outer p s
-no_second_local_word kind outer p signs.Signed OneInt e = absurd cc
-no_second_local_word kind outer p signs.Int OneSigned e = absurd cc
-no_second_local_word kind outer p _ _ e = refl
+pub no_second_local_word : (kind : Qualifier) (scope : Scope) (p : Place) (s : Sign) (words : TypeWords) → is_second_word s words ≡ false
+    → local_type kind scope p s words ≡ behind_local_type kind scope p s
+no_second_local_word kind scope p signs.Signed OneInt e = absurd cc
+no_second_local_word kind scope p signs.Int OneSigned e = absurd cc
+no_second_local_word kind scope p _ _ e = refl
 
 -- the same in a static declaration
 pub second_static_word : (kind : Qualifier) (outer : Stack) (s : Sign) (words : TypeWords) → is_second_word s words ≡ true

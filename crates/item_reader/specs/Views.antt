@@ -17,10 +17,14 @@ use Rattle.item_reader.specs.declared.words.Count.TheVariants as counts
 use Rattle.item_reader.specs.declared.unfinished.Frame.{Frame}
 use Rattle.item_reader.specs.declared.unfinished.Frame.TheVariants as frames
 use Rattle.item_reader.specs.declared.unfinished.Link.{Link}
+use Rattle.item_reader.specs.declared.unfinished.Start.{Start}
+use Rattle.item_reader.specs.declared.unfinished.Start.TheVariants as starts
 use Rattle.item_reader.specs.declared.unfinished.Stack.{Stack}
 use Rattle.item_reader.specs.declared.unfinished.Stack.TheVariants as stacks
 use Rattle.item_reader.specs.declared.unfinished.Onward.{Onward}
 use Rattle.item_reader.specs.declared.unfinished.Onward.TheVariants as onwards
+use Rattle.item_reader.specs.declared.unfinished.Scope.{Scope}
+use Rattle.item_reader.specs.declared.unfinished.Scope.TheVariants as scopes
 use Rattle.item_reader.specs.declared.unfinished.Site.{Site}
 use Rattle.item_reader.specs.declared.unfinished.Site.TheVariants as sites
 use Rattle.item_reader.specs.declared.unfinished.Purpose.{Purpose}
@@ -75,6 +79,10 @@ as_link link = (link.number, code link.made.items)
 unfoldable pub as_links : List Link → List (ℕ × Code)
 as_links list = map as_link (reverse list)
 
+abbrev pub as_start : Start → machine.Start
+as_start (starts.ChangeStart made) = machine.ChangeStart (code made.items)
+as_start (starts.DeclaredStart place made) = machine.DeclaredStart place (code made.items)
+
 abbrev pub as_stack : Stack → machine.Stack
 as_stack (stacks.Top declared made) = machine.Top declared.items (code made.items)
 as_stack (stacks.Braces' place made q outer) = machine.Braces place (code made.items) (as_stack outer)
@@ -82,17 +90,21 @@ as_stack (stacks.Yes' links number made q outer) = machine.Yes (as_links links.i
 as_stack (stacks.No' links number first made q outer) = machine.No (as_links links.items) number (code first.items) (code made.items) (as_stack outer)
 as_stack (stacks.ThenOf' place test q outer) = machine.ThenOf place (term test) (as_stack outer)
 as_stack (stacks.ElseOf' place test first q outer) = machine.ElseOf place (term test) (code first.items) (as_stack outer)
-as_stack (stacks.LoopOf' start place test advance q outer) = machine.LoopOf (code start.items) place (term test) (code advance.items) (as_stack outer)
+as_stack (stacks.LoopOf' start place test advance q outer) = machine.LoopOf (as_start start) place (term test) (code advance.items) (as_stack outer)
 as_stack (stacks.DoOf' place q outer) = machine.DoOf place (as_stack outer)
 
 abbrev pub as_onward : Onward → machine.Onward
 as_onward (onwards.InList outer) = machine.InList (as_stack outer)
 as_onward (onwards.AtTest place body outer) = machine.AtTest place (code body.items) (as_stack outer)
 
+abbrev pub as_scope : Scope → machine.Scope
+as_scope (scopes.ListScope outer) = machine.ListScope (as_stack outer)
+as_scope (scopes.ForScope place made outer) = machine.ForScope place (code made.items) (as_stack outer)
+
 abbrev pub as_site : Site → machine.Site
 as_site (sites.AsStatement outer) = machine.AsStatement (as_stack outer)
 as_site (sites.AsStart outer) = machine.AsStart (as_stack outer)
-as_site (sites.AsStep start place test outer) = machine.AsStep (code start.items) place (term test) (as_stack outer)
+as_site (sites.AsStep start place test outer) = machine.AsStep (as_start start) place (term test) (as_stack outer)
 
 abbrev pub as_qualifier : Qualifier → grammar.Qualifier
 as_qualifier qualifiers.Unqualified = grammar.Unqualified
@@ -101,18 +113,18 @@ as_qualifier (qualifiers.Counted last) = grammar.Counted last
 
 abbrev pub as_purpose : Purpose → machine.Use
 as_purpose (purposes.ToAssign place target site) = machine.ToAssign place target (as_site site)
-as_purpose (purposes.ToInitialise kind place target outer) = machine.ToInitialise (as_qualifier kind) place target (as_stack outer)
+as_purpose (purposes.ToInitialise kind place target scope) = machine.ToInitialise (as_qualifier kind) place target (as_scope scope)
 as_purpose (purposes.ToUpdate place target update site) = machine.ToUpdate place target (as_update update) (as_site site)
 as_purpose (purposes.ToAssert place outer) = machine.ToAssert place (as_stack outer)
 as_purpose (purposes.ToChoose place outer) = machine.ToChoose place (as_stack outer)
 as_purpose (purposes.ToLoop place outer) = machine.ToLoop place (as_stack outer)
-as_purpose (purposes.ToRepeat start place outer) = machine.ToRepeat (code start.items) place (as_stack outer)
+as_purpose (purposes.ToRepeat start place outer) = machine.ToRepeat (as_start start) place (as_stack outer)
 as_purpose (purposes.ToRedo place body test_place outer) = machine.ToRedo place (code body.items) test_place (as_stack outer)
 as_purpose (purposes.ToReturn place outer) = machine.ToReturn place (as_stack outer)
 
 abbrev pub as_pending : Pending → machine.Pending
 as_pending (pendings.OfStatement site statement) = machine.OfStatement (as_site site) (front statement Done)
-as_pending (pendings.OfLocal kind outer statement) = machine.OfLocal (as_qualifier kind) (as_stack outer) (front statement Done)
+as_pending (pendings.OfLocal kind scope statement) = machine.OfLocal (as_qualifier kind) (as_scope scope) (front statement Done)
 
 abbrev pub as_sections : Sections → machine.Sections
 as_sections sections.Outermost = machine.Outermost
@@ -180,10 +192,10 @@ as_state (states.InParameters aim) = machine.InParameters (as_aim aim)
 as_state (states.AfterVoid aim) = machine.AfterVoid (as_aim aim)
 as_state (states.AfterParameters aim) = machine.AfterParameters (as_aim aim)
 as_state (states.Ready outer) = machine.Ready (as_stack outer)
-as_state (states.LocalConst outer) = machine.LocalConst (as_stack outer)
-as_state (states.LocalType kind words outer) = machine.LocalType (as_qualifier kind) (as_words words) (as_stack outer)
-as_state (states.NextLocal kind outer) = machine.NextLocal (as_qualifier kind) (as_stack outer)
-as_state (states.LocalNamed kind place target outer) = machine.LocalNamed (as_qualifier kind) place target (as_stack outer)
+as_state (states.LocalConst scope) = machine.LocalConst (as_scope scope)
+as_state (states.LocalType kind words scope) = machine.LocalType (as_qualifier kind) (as_words words) (as_scope scope)
+as_state (states.NextLocal kind scope) = machine.NextLocal (as_qualifier kind) (as_scope scope)
+as_state (states.LocalNamed kind place target scope) = machine.LocalNamed (as_qualifier kind) place target (as_scope scope)
 as_state (states.InStatic part outer) = machine.InStatic (as_static_part part) (as_stack outer)
 as_state (states.Ended outer statement) = machine.Ended (as_stack outer) (front statement Done)
 as_state (states.Wants fs purpose) = machine.Wants (as_frames fs.items) (as_purpose purpose)
@@ -191,10 +203,10 @@ as_state (states.Has fs purpose operand) = machine.Has (as_frames fs.items) (as_
 as_state (states.Counting place count site) = machine.Counting place (as_count count) (as_site site)
 as_state (states.Named place target site) = machine.Named place target (as_site site)
 as_state (states.Opens purpose) = machine.Opens (as_purpose purpose)
-as_state (states.ForOpens outer) = machine.ForOpens (as_stack outer)
-as_state (states.StartComes outer) = machine.StartComes (as_stack outer)
-as_state (states.TestComes start outer) = machine.TestComes (code start.items) (as_stack outer)
-as_state (states.StepComes start place test outer) = machine.StepComes (code start.items) place (term test) (as_stack outer)
+as_state (states.ForOpens place outer) = machine.ForOpens place (as_stack outer)
+as_state (states.StartComes place outer) = machine.StartComes place (as_stack outer)
+as_state (states.TestComes start outer) = machine.TestComes (as_start start) (as_stack outer)
+as_state (states.StepComes start place test outer) = machine.StepComes (as_start start) place (term test) (as_stack outer)
 as_state (states.RedoOpens place body outer) = machine.RedoOpens place (code body.items) (as_stack outer)
 as_state (states.RedoComes place body outer) = machine.RedoComes place (code body.items) (as_stack outer)
 as_state (states.VoidComes place outer) = machine.VoidComes place (as_stack outer)

@@ -11,7 +11,7 @@ ghost use Rattle.item_reader.specs.Views.{Moves, as_count, as_site, as_update};
 use crate::frames::binary;
 use crate::lists::only;
 use crate::states::ReadingState;
-use crate::unfinished::{Site, Stack};
+use crate::unfinished::{Site, Stack, Start};
 use crate::words::{Count, Update};
 use c_grammar::Sign;
 use c_tree::{Expr, Op, Stmt};
@@ -89,8 +89,11 @@ pub(crate) fn ended_change(
     match site {
         Site::AsStatement { outer } => Ok(Some(ReadingState::Ended { outer, statement })),
         Site::AsStart { outer } => {
-            let start = only(alloc, statement)?;
-            Ok(Some(ReadingState::TestComes { start, outer }))
+            let made = only(alloc, statement)?;
+            Ok(Some(ReadingState::TestComes {
+                start: Start::ChangeStart { made },
+                outer,
+            }))
         }
         Site::AsStep { .. } => Ok(None),
     }

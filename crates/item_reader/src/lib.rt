@@ -20,6 +20,7 @@ mod parameters;
 mod programs;
 mod purposes;
 pub mod reading;
+mod scopes;
 mod sections;
 mod stacks;
 mod statements;

@@ -6,21 +6,21 @@ ghost use Rattle.c_tree.specs.Tree.{Done};
 ghost use Rattle.c_tree.specs.View.{front};
 ghost use Rattle.c_grammar.specs.Grammar as grammar;
 ghost use Rattle.c_grammar.specs.Machine as machine;
-ghost use Rattle.item_reader.specs.Views.{as_pending, as_qualifier, as_stack, as_state, as_words, Moves};
+ghost use Rattle.item_reader.specs.Views.{as_pending, as_qualifier, as_scope, as_stack, as_state, as_words, Moves};
 
 use crate::changes::finished_change;
 use crate::expressions::expected;
 use crate::heads::is_second_word;
-use crate::stacks::folded;
+use crate::scopes::{behind_declaration, initialising, with_declarator};
 use crate::states::ReadingState;
-use crate::unfinished::{Pending, Purpose, Stack};
+use crate::unfinished::{Pending, Purpose, Scope, Stack};
 use crate::words::{Qualifier, TypeWords};
 use c_grammar::Sign;
 use c_tree::Stmt;
 use fam_outer::{NoMemory, Place};
 use std::alloc::Global;
 
-/// What is open, where it is a list, in which alone a declaration stands.
+/// What is open, where it is a list, in which alone a declaration as a statement stands.
 pub(crate) fn in_list(outer: Stack) -> Option<Stack>
     ensures same { IfSome result (λ list. as_stack list ≡ as_stack outer) }
     ensures list { (next : machine.ReadingState) → option_map (λ list. next) result
@@ -36,29 +36,31 @@ pub(crate) fn in_list(outer: Stack) -> Option<Stack>
 /// `const`, where a statement may begin.
 pub(crate) fn const_in(outer: Stack) -> Option<ReadingState>
     ensures { option_map as_state result
-        ≡ machine.in_list (as_stack outer) (machine.LocalConst (as_stack outer)) }
+        ≡ machine.in_list (as_stack outer) (machine.LocalConst (machine.ListScope (as_stack outer))) }
 {
     let outer = in_list(outer)?;
-    Some(ReadingState::LocalConst { outer })
+    Some(ReadingState::LocalConst {
+        scope: Scope::ListScope { outer },
+    })
 }
 
 /// The first word of a type, where a statement may begin.
 pub(crate) fn type_in(outer: Stack, words: TypeWords) -> Option<ReadingState>
     ensures { option_map as_state result
         ≡ machine.in_list (as_stack outer)
-        (machine.LocalType grammar.Unqualified (as_words words) (as_stack outer)) }
+        (machine.LocalType grammar.Unqualified (as_words words) (machine.ListScope (as_stack outer))) }
 {
     let outer = in_list(outer)?;
     Some(ReadingState::LocalType {
         kind: Qualifier::Unqualified,
         words,
-        outer,
+        scope: Scope::ListScope { outer },
     })
 }
 
 /// Behind `const`: the first word of a type.
-pub(crate) fn const_word(outer: Stack, sign: Sign) -> Option<ReadingState>
-    ensures { option_map as_state result ≡ machine.const_word (as_stack outer) sign }
+pub(crate) fn const_word(scope: Scope, sign: Sign) -> Option<ReadingState>
+    ensures { option_map as_state result ≡ machine.const_word (as_scope scope) sign }
 {
     let words = match sign {
         Sign::Int => TypeWords::OneInt,
@@ -69,57 +71,57 @@ pub(crate) fn const_word(outer: Stack, sign: Sign) -> Option<ReadingState>
     Some(ReadingState::LocalType {
         kind: Qualifier::Constant,
         words,
-        outer,
+        scope,
     })
 }
 
 /// Where a declarator comes: its name.
 pub(crate) fn next_local(
     kind: Qualifier,
-    outer: Stack,
+    scope: Scope,
     place: Place,
     sign: Sign,
 ) -> Option<ReadingState>
-    ensures { option_map as_state result ≡ machine.next_local (as_qualifier kind) (as_stack outer) place sign }
+    ensures { option_map as_state result ≡ machine.next_local (as_qualifier kind) (as_scope scope) place sign }
 {
     match sign {
         Sign::Name(target) => Some(ReadingState::LocalNamed {
-            kind,
+            kind: initialising(&scope, kind),
             place,
             target,
-            outer,
+            scope,
         }),
         _ => None,
     }
 }
 
 /// Behind a type without `const`: this word, or a name.
-fn qualifying_local(outer: Stack, place: Place, sign: Sign) -> Option<ReadingState>
+fn qualifying_local(scope: Scope, place: Place, sign: Sign) -> Option<ReadingState>
     ensures { option_map as_state result
-        ≡ machine.behind_local_type grammar.Unqualified (as_stack outer) place sign }
+        ≡ machine.behind_local_type grammar.Unqualified (as_scope scope) place sign }
 {
     match sign {
         Sign::Const => Some(ReadingState::NextLocal {
             kind: Qualifier::Constant,
-            outer,
+            scope,
         }),
-        other => next_local(Qualifier::Unqualified, outer, place, other),
+        other => next_local(Qualifier::Unqualified, scope, place, other),
     }
 }
 
 /// What follows the type of a declaration.
 fn behind_local_type(
     kind: Qualifier,
-    outer: Stack,
+    scope: Scope,
     place: Place,
     sign: Sign,
 ) -> Option<ReadingState>
     ensures { option_map as_state result
-        ≡ machine.behind_local_type (as_qualifier kind) (as_stack outer) place sign }
+        ≡ machine.behind_local_type (as_qualifier kind) (as_scope scope) place sign }
 {
     match kind {
-        Qualifier::Unqualified => qualifying_local(outer, place, sign),
-        Qualifier::Constant | Qualifier::Counted(_) => next_local(kind, outer, place, sign),
+        Qualifier::Unqualified => qualifying_local(scope, place, sign),
+        Qualifier::Constant | Qualifier::Counted(_) => next_local(kind, scope, place, sign),
     }
 }
 
@@ -127,66 +129,65 @@ fn behind_local_type(
 #[tactic(auto, using(crate::proofs::MoreWords::second_local_word, crate::proofs::MoreWords::no_second_local_word))]
 pub(crate) fn local_type(
     kind: Qualifier,
-    outer: Stack,
+    scope: Scope,
     place: Place,
     sign: Sign,
     words: TypeWords,
 ) -> Option<ReadingState>
     ensures { option_map as_state result
-        ≡ machine.local_type (as_qualifier kind) (as_stack outer) place sign (as_words words) }
+        ≡ machine.local_type (as_qualifier kind) (as_scope scope) place sign (as_words words) }
 {
     if is_second_word(sign, words) {
         Some(ReadingState::LocalType {
             kind,
             words: TypeWords::WholeType,
-            outer,
+            scope,
         })
     } else {
-        behind_local_type(kind, outer, place, sign)
+        behind_local_type(kind, scope, place, sign)
     }
 }
 
-/// The end of a declarator, whose statement is put into the list.
+/// The end of a declarator, whose statement is put into what its declaration stands in.
 fn local_end(
     alloc: Global,
     kind: Qualifier,
-    outer: Stack,
+    scope: Scope,
     statement: Stmt,
     sign: Sign,
 ) -> Result<Option<ReadingState>, NoMemory>
     ensures { Moves result
-        (machine.local_end (as_qualifier kind) (as_stack outer) (front statement Done) sign) }
+        (machine.local_end (as_qualifier kind) (as_scope scope) (front statement Done) sign) }
 {
     match sign {
         Sign::Semicolon => {
-            let outer = folded(alloc, outer, statement)?;
-            Ok(Some(ReadingState::Ready { outer }))
+            let scope = with_declarator(alloc, scope, statement)?;
+            Ok(Some(behind_declaration(scope)))
         }
         Sign::Comma => {
-            let outer = folded(alloc, outer, statement)?;
-            Ok(Some(ReadingState::NextLocal { kind, outer }))
+            let scope = with_declarator(alloc, scope, statement)?;
+            Ok(Some(ReadingState::NextLocal { kind, scope }))
         }
         _ => Ok(None),
     }
 }
 
 /// Behind a declared name without an initialiser: a variable has any value, and a constant has an initialiser.
-#[tactic(auto, using(crate::proofs::Holding::holding))]
 fn without_initialiser(
     alloc: Global,
     kind: Qualifier,
     place: Place,
     target: u32,
-    outer: Stack,
+    scope: Scope,
     sign: Sign,
 ) -> Result<Option<ReadingState>, NoMemory>
     ensures { Moves result
-        (machine.without_initialiser (as_qualifier kind) place target (as_stack outer) sign) }
+        (machine.without_initialiser (as_qualifier kind) place target (as_scope scope) sign) }
 {
     match kind {
         Qualifier::Unqualified => {
             let statement = Stmt::Input { place, target };
-            local_end(alloc, kind, outer, statement, sign)
+            local_end(alloc, kind, scope, statement, sign)
         }
         Qualifier::Constant | Qualifier::Counted(_) => Ok(None),
     }
@@ -198,10 +199,10 @@ pub(crate) fn local_named(
     kind: Qualifier,
     place: Place,
     target: u32,
-    outer: Stack,
+    scope: Scope,
     sign: Sign,
 ) -> Result<Option<ReadingState>, NoMemory>
-    ensures { Moves result (machine.local_named (as_qualifier kind) place target (as_stack outer) sign) }
+    ensures { Moves result (machine.local_named (as_qualifier kind) place target (as_scope scope) sign) }
 {
     match sign {
         Sign::Equals => {
@@ -209,11 +210,11 @@ pub(crate) fn local_named(
                 kind,
                 place,
                 target,
-                outer,
+                scope,
             };
             Ok(Some(expected(alloc, purpose)))
         }
-        _ => without_initialiser(alloc, kind, place, target, outer, sign),
+        _ => without_initialiser(alloc, kind, place, target, scope, sign),
     }
 }
 
@@ -229,8 +230,8 @@ pub(crate) fn finishing(
         Pending::OfStatement { site, statement } => finished_change(alloc, site, statement, sign),
         Pending::OfLocal {
             kind,
-            outer,
+            scope,
             statement,
-        } => local_end(alloc, kind, outer, statement, sign),
+        } => local_end(alloc, kind, scope, statement, sign),
     }
 }

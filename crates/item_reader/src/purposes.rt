@@ -5,13 +5,13 @@ ghost use Rattle.std.specs.Prelude.{◌≡◌, [], Some, option_map, IfOk};
 ghost use Rattle.c_tree.specs.Tree.{Assert, Assign, Done};
 ghost use Rattle.c_tree.specs.View.{term};
 ghost use Rattle.c_grammar.specs.Machine as machine;
-ghost use Rattle.item_reader.specs.Views.{Moves, as_purpose, as_stack, as_state};
+ghost use Rattle.item_reader.specs.Views.{Moves, as_purpose, as_scope, as_stack, as_state};
 
 use crate::changes::{assignment, closed_change, ended_change, updated};
 use crate::jumps::{redone, returned};
-use crate::stacks::folded;
+use crate::scopes::{behind_declaration, with_declarator};
 use crate::states::ReadingState;
-use crate::unfinished::{Pending, Purpose, Site, Stack};
+use crate::unfinished::{Pending, Purpose, Scope, Site, Stack, Start};
 use c_tree::{Expr, Stmt};
 use fam_outer::{NoMemory, Place};
 use std::alloc::Global;
@@ -34,10 +34,10 @@ pub(crate) fn input_for(purpose: Purpose) -> Option<ReadingState>
             kind,
             place,
             target,
-            outer,
+            scope,
         } => Pending::OfLocal {
             kind,
-            outer,
+            scope,
             statement: Stmt::Input { place, target },
         },
         Purpose::ToUpdate { .. }
@@ -88,10 +88,11 @@ fn looped(
     outer: Stack,
 ) -> Result<Option<ReadingState>, NoMemory>
     ensures { Moves result (Some (machine.Ready
-        (machine.LoopOf Done place (term test) Done (as_stack outer)))) }
+        (machine.LoopOf (machine.ChangeStart Done) place (term test) Done (as_stack outer)))) }
 {
+    let made = Vec::new(alloc);
     let outer = Stack::LoopOf {
-        start: Vec::new(alloc),
+        start: Start::ChangeStart { made },
         place,
         test,
         advance: Vec::new(alloc),
@@ -135,18 +136,18 @@ pub(crate) fn tested(
     }
 }
 
-/// The list with a variable that is declared with this value.
+/// What a declaration stands in, with a variable that is declared with this value.
 fn with_local(
     alloc: Global,
     place: Place,
     target: u32,
     value: Expr,
-    outer: Stack,
-) -> Result<Stack, NoMemory>
-    ensures { IfOk result (λ made. as_stack made
-        ≡ machine.folded (as_stack outer) (Assign place target (term value) Done)) }
+    scope: Scope,
+) -> Result<Scope, NoMemory>
+    ensures { IfOk result (λ made. as_scope made
+        ≡ machine.with_declarator (as_scope scope) (Assign place target (term value) Done)) }
 {
-    folded(alloc, outer, assignment(place, target, value))
+    with_declarator(alloc, scope, assignment(place, target, value))
 }
 
 /// The expression before a semicolon is whole.
@@ -167,10 +168,10 @@ pub(crate) fn assigned(
             kind: _kind,
             place,
             target,
-            outer,
+            scope,
         } => {
-            let outer = with_local(alloc, place, target, value, outer)?;
-            Ok(Some(ReadingState::Ready { outer }))
+            let scope = with_local(alloc, place, target, value, scope)?;
+            Ok(Some(behind_declaration(scope)))
         }
         Purpose::ToUpdate {
             place,
@@ -209,10 +210,10 @@ pub(crate) fn initialised(
             kind,
             place,
             target,
-            outer,
+            scope,
         } => {
-            let outer = with_local(alloc, place, target, value, outer)?;
-            Ok(Some(ReadingState::NextLocal { kind, outer }))
+            let scope = with_local(alloc, place, target, value, scope)?;
+            Ok(Some(ReadingState::NextLocal { kind, scope }))
         }
         Purpose::ToAssign { .. }
         | Purpose::ToUpdate { .. }

@@ -27,8 +27,9 @@ use std::alloc::Global;
 /// of the groups around it. Any other declarator in `main` is a statement: it assigns its initialiser, and without one any
 /// value, as that of an input is.
 /// A `for` is what it does before its first test, if anything, and then a loop with its test and its step; the loop has the
-/// place of the test, and a test that is left out is 1, at the semicolon. A `do` does its body before its first test. `break`
-/// and `continue` stand in a loop, and `return`, with an expression, where any statement may.
+/// place of the test, and a test that is left out is 1, at the semicolon. Where it declares variables, each with an
+/// initialiser, it is a block at its place around both. A `do` does its body before its first test. `break` and `continue`
+/// stand in a loop, and `return`, with an expression, where any statement may.
 ///
 /// The conditions are that the items name these names alone, that the numbers are from 0 to 2147483647, and that the
 /// places rise. With at most 48 names the program is well formed.

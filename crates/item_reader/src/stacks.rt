@@ -2,19 +2,19 @@
 #![tactic(auto)]
 
 ghost use Rattle.std.specs.Prelude.{◌≡◌, IfOk};
-ghost use Rattle.c_tree.specs.Tree.{Done};
+ghost use Rattle.c_tree.specs.Tree.{Done, While};
 ghost use Rattle.c_tree.specs.View.{code, front, term};
 ghost use Rattle.c_grammar.specs.Machine as machine;
-ghost use Rattle.item_reader.specs.Views.{Moves, as_onward, as_stack, as_state};
+ghost use Rattle.item_reader.specs.Views.{Moves, as_onward, as_stack, as_start, as_state};
 
-use crate::lists::{if_else, if_then, loop_behind, only, with_statements};
+use crate::lists::{block, if_else, if_then, loop_behind, only, with_statements};
 use crate::states::ReadingState;
-use crate::unfinished::{Onward, Stack};
+use crate::unfinished::{Onward, Stack, Start};
 use c_tree::{Expr, Stmt};
 use fam_outer::{NoMemory, Place};
 use std::alloc::Global;
 
-/// The statements are put into the list that is open: what a declarator makes stands in lists alone.
+/// The statements are put into the list that is open.
 fn folded_list(stack: Stack, statements: Vec<Stmt>) -> Result<Stack, NoMemory>
     ensures { IfOk result (λ made. as_stack made
         ≡ machine.folded (as_stack stack) (code statements.items)) }
@@ -70,6 +70,27 @@ pub(crate) fn folded(alloc: Global, stack: Stack, statement: Stmt) -> Result<Sta
     folded_list(stack, statements)
 }
 
+/// A loop, behind what stands before its first test.
+fn started_by(
+    alloc: Global,
+    start: Start,
+    place: Place,
+    test: Expr,
+    step: Vec<Stmt>,
+    body: Vec<Stmt>,
+) -> Result<Vec<Stmt>, NoMemory>
+    ensures { IfOk result (λ made. code made.items ≡ machine.started_by (as_start start)
+        (While place (term test) (code step.items) (code body.items) Done)) }
+{
+    match start {
+        Start::ChangeStart { made } => loop_behind(made, place, test, step, body),
+        Start::DeclaredStart { place: first, made } => {
+            let statements = loop_behind(made, place, test, step, body)?;
+            only(alloc, block(first, statements))
+        }
+    }
+}
+
 /// The statements are put where they belong, and no `else` comes.
 fn placed_list(alloc: Global, stack: Stack, statements: Vec<Stmt>) -> Result<Onward, NoMemory>
     ensures { IfOk result (λ made. as_onward made
@@ -96,7 +117,7 @@ fn placed_list(alloc: Global, stack: Stack, statements: Vec<Stmt>) -> Result<Onw
             advance,
             outer,
         } => {
-            let statements = loop_behind(start, place, test, advance, statements)?;
+            let statements = started_by(alloc, start, place, test, advance, statements)?;
             placed_list(alloc, Box::into_inner(outer), statements)
         }
         Stack::DoOf { place, outer } => Ok(Onward::AtTest {
@@ -167,7 +188,7 @@ fn else_of_list(
             advance,
             outer,
         } => {
-            let statements = loop_behind(start, place, test, advance, statements)?;
+            let statements = started_by(alloc, start, place, test, advance, statements)?;
             else_of_list(alloc, Box::into_inner(outer), statements)
         }
     }

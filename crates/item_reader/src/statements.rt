@@ -124,7 +124,7 @@ pub(crate) fn begin(
         Sign::Assert => Ok(opens(Purpose::ToAssert { place, outer })),
         Sign::If => Ok(opens(Purpose::ToChoose { place, outer })),
         Sign::While => Ok(opens(Purpose::ToLoop { place, outer })),
-        Sign::For => Ok(Some(ReadingState::ForOpens { outer })),
+        Sign::For => Ok(Some(ReadingState::ForOpens { place, outer })),
         Sign::Do => do_in(alloc, outer, place),
         Sign::Break => Ok(leaving(outer, place, Jump::Break)),
         Sign::Continue => Ok(leaving(outer, place, Jump::Continue)),

@@ -1,7 +1,7 @@
 //! What was read so far, between two items.
 #![tactic(auto)]
 
-use crate::unfinished::{Frame, Pending, Purpose, Site, Stack};
+use crate::unfinished::{Frame, Pending, Purpose, Scope, Site, Stack, Start};
 use crate::words::{Count, Leading, Qualifier, StaticPart, TypeWords};
 use c_tree::{Declared, Expr, Guard, Stmt};
 use fam_outer::Place;
@@ -180,24 +180,24 @@ pub(crate) enum ReadingState {
     },
     /// Behind `const` before the type of a declaration in `main`.
     LocalConst {
-        outer: Stack,
+        scope: Scope,
     },
     /// Behind a word of its type.
     LocalType {
         kind: Qualifier,
         words: TypeWords,
-        outer: Stack,
+        scope: Scope,
     },
     /// The name of a variable comes, and behind it.
     NextLocal {
         kind: Qualifier,
-        outer: Stack,
+        scope: Scope,
     },
     LocalNamed {
         kind: Qualifier,
         place: Place,
         target: u32,
-        outer: Stack,
+        scope: Scope,
     },
     /// In a static declaration in `main`, which leaves no statement.
     InStatic {
@@ -238,17 +238,19 @@ pub(crate) enum ReadingState {
     },
     /// Behind `for`, behind its parenthesis, behind its first semicolon, and behind the second one.
     ForOpens {
+        place: Place,
         outer: Stack,
     },
     StartComes {
+        place: Place,
         outer: Stack,
     },
     TestComes {
-        start: Vec<Stmt>,
+        start: Start,
         outer: Stack,
     },
     StepComes {
-        start: Vec<Stmt>,
+        start: Start,
         place: Place,
         test: Expr,
         outer: Stack,

@@ -206,17 +206,17 @@ fn step_local(
     ensures { Moves result (machine.step (as_state state) place sign) }
 {
     match state {
-        ReadingState::LocalConst { outer } => Ok(const_word(outer, sign)),
-        ReadingState::LocalType { kind, words, outer } => {
-            Ok(local_type(kind, outer, place, sign, words))
+        ReadingState::LocalConst { scope } => Ok(const_word(scope, sign)),
+        ReadingState::LocalType { kind, words, scope } => {
+            Ok(local_type(kind, scope, place, sign, words))
         }
-        ReadingState::NextLocal { kind, outer } => Ok(next_local(kind, outer, place, sign)),
+        ReadingState::NextLocal { kind, scope } => Ok(next_local(kind, scope, place, sign)),
         ReadingState::LocalNamed {
             kind,
             place,
             target,
-            outer,
-        } => local_named(alloc, kind, place, target, outer, sign),
+            scope,
+        } => local_named(alloc, kind, place, target, scope, sign),
         ReadingState::InStatic { part, outer } => Ok(static_step(part, outer, sign)),
         other => step_operand(alloc, other, place, sign),
     }
@@ -258,8 +258,20 @@ fn step_header(
     ensures { Moves result (machine.step (as_state state) place sign) }
 {
     match state {
-        ReadingState::ForOpens { outer } => Ok(at_open(ReadingState::StartComes { outer }, sign)),
-        ReadingState::StartComes { outer } => Ok(start_comes(alloc, outer, place, sign)),
+        ReadingState::ForOpens {
+            place: first,
+            outer,
+        } => {
+            let next = ReadingState::StartComes {
+                place: first,
+                outer,
+            };
+            Ok(at_open(next, sign))
+        }
+        ReadingState::StartComes {
+            place: first,
+            outer,
+        } => Ok(start_comes(alloc, first, outer, place, sign)),
         ReadingState::TestComes { start, outer } => test_comes(alloc, start, outer, place, sign),
         ReadingState::StepComes {
             start,

@@ -20,6 +20,14 @@ pub(crate) struct Link {
     pub made: Vec<Stmt>,
 }
 
+/// What a `for` does before its first test: a change of a variable, or nothing; or it declares variables, and is a block at
+/// this place.
+#[derive(Drop)]
+pub(crate) enum Start {
+    ChangeStart { made: Vec<Stmt> },
+    DeclaredStart { place: Place, made: Vec<Stmt> },
+}
+
 /// The statements and groups that are open, the innermost first. A list has the statements that it has so far. `Top` is
 /// the list of `main`, behind the declarators. `Yes` is a part with a condition, and `No` the part behind `#else`. A loop has
 /// what stands before its first test, and its step. Of a `do` the body is read.
@@ -59,7 +67,7 @@ pub(crate) enum Stack {
         outer: Box<Stack>,
     },
     LoopOf {
-        start: Vec<Stmt>,
+        start: Start,
         place: Place,
         test: Expr,
         advance: Vec<Stmt>,
@@ -84,6 +92,19 @@ pub(crate) enum Onward {
     },
 }
 
+/// What a declaration in `main` stands in: a list, or the parentheses of a `for` at this place, with its declarators so far.
+#[derive(Drop)]
+pub(crate) enum Scope {
+    ListScope {
+        outer: Stack,
+    },
+    ForScope {
+        place: Place,
+        made: Vec<Stmt>,
+        outer: Stack,
+    },
+}
+
 /// Where a change of a variable stands: as a statement, before the first test of a `for`, or behind its test.
 #[derive(Drop)]
 pub(crate) enum Site {
@@ -94,7 +115,7 @@ pub(crate) enum Site {
         outer: Stack,
     },
     AsStep {
-        start: Vec<Stmt>,
+        start: Start,
         place: Place,
         test: Expr,
         outer: Stack,
@@ -114,7 +135,7 @@ pub(crate) enum Purpose {
         kind: Qualifier,
         place: Place,
         target: u32,
-        outer: Stack,
+        scope: Scope,
     },
     ToUpdate {
         place: Place,
@@ -135,7 +156,7 @@ pub(crate) enum Purpose {
         outer: Stack,
     },
     ToRepeat {
-        start: Vec<Stmt>,
+        start: Start,
         place: Place,
         outer: Stack,
     },
@@ -160,7 +181,7 @@ pub(crate) enum Pending {
     },
     OfLocal {
         kind: Qualifier,
-        outer: Stack,
+        scope: Scope,
         statement: Stmt,
     },
 }

@@ -145,7 +145,15 @@ pub(crate) const REFUSED_FILES: [(&str, &str); 18] = [
 ];
 
 /// Families, with their models and certificates.
-pub(crate) const FAMILY_FILES: [(&str, &str); 16] = [
+pub(crate) const FAMILY_FILES: [(&str, &str); 20] = [
+    (
+        "controller.c",
+        "/* A controller gives a value from 0 to 1000, whatever is measured. */\n#define OUT_MIN 0\n#define OUT_MAX 1000\n#ifdef CONFIG_ANTIWINDUP\n#define I_MAX 20000\n#endif\nint adc_read(void);\nvoid pwm_set(void);\n\nint main(void)\n{\n    static int32_t integral, last_error;\n    for (;;) {\n        int32_t measured = adc_read();\n        if (measured < 0 || measured > 4095)\n            measured = 0;\n        int32_t error = 2048 - measured;\n        integral += error;\n#ifdef CONFIG_ANTIWINDUP\n        if (integral < -I_MAX)\n            integral = -I_MAX;\n        else if (integral > I_MAX)\n            integral = I_MAX;\n#endif\n        int32_t out = CONFIG_KP * error + CONFIG_KI * integral;\n#if CONFIG_KD > 0\n        out += CONFIG_KD * (error - last_error);\n        last_error = error;\n#endif\n        out /= 16;\n        if (out < OUT_MIN)\n            out = OUT_MIN;\n        else if (out > OUT_MAX)\n            out = OUT_MAX;\n        assert(out >= OUT_MIN && out <= OUT_MAX);\n        pwm_set();\n    }\n}\n",
+    ),
+    (
+        "fifo.c",
+        "/* A ring buffer of bytes: what comes is put into it, else one is taken. */\nint uart_ready(void);\nint uart_read(void);\n\nint main(void)\n{\n    static int head, tail, count;\n#if CONFIG_RB_BITS <= 3\n    const int size = 8;\n#elif CONFIG_RB_BITS <= 5\n    const int size = 32;\n#else\n    const int size = 128;\n#endif\n    for (;;) {\n        int ready = uart_ready();\n        if (ready) {\n            int c = uart_read();\n            if (count == size) {\n#ifdef CONFIG_OVERWRITE\n                tail = (tail + 1) % size;\n#else\n                continue;\n#endif\n            } else {\n                count++;\n            }\n            assert(head >= 0 && head < size);\n            head = (head + 1) % size;\n        } else {\n            if (count == 0)\n                continue;\n            assert(tail >= 0 && tail < size);\n            tail = (tail + 1) % size;\n#ifndef CONFIG_NO_COUNT\n            count--;\n#endif\n        }\n        assert(count <= size);\n        assert(count != 0 || head == tail);\n    }\n}\n",
+    ),
     (
         "filter.c",
         "/* The weight of a filter is a constant of the build, and its number of taps is a feature. */\n#ifdef FAST\n#define WEIGHT 2\n#else\n#define WEIGHT (3)\n#endif\n#define LEAST -100\nint level;\nint sum;\n\nint main(void)\n{\n    level = input();\n    if (level < LEAST || level > 100)\n        level = 0;\n    sum = level * WEIGHT / TAPS;\n    assert(sum < 250);\n}\n",
@@ -173,6 +181,14 @@ pub(crate) const FAMILY_FILES: [(&str, &str); 16] = [
     (
         "slots.c",
         "/* A sample at each tick, in a ring buffer of blocks of 8 places; the configuration says how many places. */\nint tick;\nint block;\n\nint main(void)\n{\n    while (tick < 100000) {\n        tick++;\n        block = tick % (SLOTS / 8);\n        assert(block >= 0 && block < SLOTS);\n    }\n}\n",
+    ),
+    (
+        "controller.json",
+        "{\"features\": [{\"name\": \"CONFIG_KP\", \"min\": 1, \"max\": 8}, {\"name\": \"CONFIG_KI\", \"min\": 0, \"max\": 4},\n              {\"name\": \"CONFIG_KD\", \"min\": 0, \"max\": 4}, {\"name\": \"CONFIG_ANTIWINDUP\"}]}\n",
+    ),
+    (
+        "fifo.json",
+        "{\"features\": [{\"name\": \"CONFIG_RB_BITS\", \"min\": 3, \"max\": 7}, {\"name\": \"CONFIG_OVERWRITE\"}, {\"name\": \"CONFIG_NO_COUNT\"}]}\n",
     ),
     (
         "filter.json",
@@ -435,7 +451,15 @@ pub(crate) const PROGRAMS: [(&str, &str); 38] = [
 ];
 
 /// Those on families.
-pub(crate) const FAMILIES: [(&str, &str); 16] = [
+pub(crate) const FAMILIES: [(&str, &str); 18] = [
+    (
+        "analyse --regions=merged controller.json controller.c",
+        "18:9: overflow if !CONFIG_ANTIWINDUP; example CONFIG_KP=1 CONFIG_KI=0 CONFIG_KD=0 CONFIG_ANTIWINDUP=0\n25:17: overflow if CONFIG_KI >= 1 && !CONFIG_ANTIWINDUP; example CONFIG_KP=1 CONFIG_KI=1 CONFIG_KD=0 CONFIG_ANTIWINDUP=0\n27:9: overflow if CONFIG_KI >= 1 && CONFIG_KD >= 1 && !CONFIG_ANTIWINDUP; example CONFIG_KP=1 CONFIG_KI=1 CONFIG_KD=1 CONFIG_ANTIWINDUP=0\nalarms: 3\n",
+    ),
+    (
+        "analyse --regions=merged --widening=thresholds fifo.json fifo.c",
+        "40:9: assertion if !CONFIG_NO_COUNT; example CONFIG_RB_BITS=3 CONFIG_OVERWRITE=0 CONFIG_NO_COUNT=0\nalarms: 1\n",
+    ),
     (
         "analyse --regions=merged filter.json filter.c",
         "17:5: assertion if !FAST && TAPS <= 1; example FAST=0 TAPS=1\nalarms: 1\n",

@@ -142,10 +142,6 @@ fn analyses_go_part_by_part(rt: HostRuntime) -> Result<(), Fail> {
 fn other_forms_are_refused(rt: HostRuntime) -> Result<(), Fail> {
     let rows = [
         (
-            "int main(void){\nfor(int i=0;;);\n}\n",
-            "file: F12 at 2:5\n",
-        ),
-        (
             "int x;\nint main(void){\nfor(x;;);\n}\n",
             "file: F12 at 3:6\n",
         ),

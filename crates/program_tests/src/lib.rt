@@ -15,6 +15,8 @@ mod example_files;
 #[cfg(test)]
 mod example_tests;
 #[cfg(test)]
+mod for_scope_tests;
+#[cfg(test)]
 mod for_tests;
 #[cfg(test)]
 mod guide_tests;

@@ -80,6 +80,15 @@ for_length x y ts us vs ws =
 with_loop : (n a s c t u v w : ℕ) → n ≡ a + suc (s + (c + 0)) → a ≤ t → s ≤ v → c ≤ w → n ≤ suc (suc (t + suc (u + (v + suc w))))
 with_loop n a s c t u v w e h j k = omega arith
 
+-- those of one that declares variables
+declaring_length : (x : Item) (ts ds us vs ws : List Item) → length (ts ++ (ds ++ (us ++ (vs ++ x ∷ ws)))) ≡ length ts + (length ds + (length us + (length vs + suc (length ws))))
+declaring_length x ts ds us vs ws =
+    length-append ts (ds ++ (us ++ (vs ++ x ∷ ws)))
+    ∙ ap (λ n. length ts + n) (length-append ds (us ++ (vs ++ x ∷ ws)) ∙ ap (λ n. length ds + n) (length-append us (vs ++ x ∷ ws) ∙ ap (λ n. length us + n) (length-append vs (x ∷ ws))))
+
+with_declaration : (n a s c t d u v w : ℕ) → n ≡ a + suc (s + (c + 0)) → a ≤ d → s ≤ v → c ≤ w → suc (n + 0) ≤ suc (suc (t + (d + (u + (v + suc w)))))
+with_declaration n a s c t d u v w e h j k = omega arith
+
 counted : {k : ℕ} {s : Shape} {ts : List Item} {c : Code} → WritesIn k s ts c → count_of c ≤ length ts
 counted within.none = le_refl 0
 counted (within.more {b} {ts} {us} {c} {d} {k} s l) = subst (λ (n : ℕ). n ≤ length (ts ++ us)) (sym (count-followed c d)) (two_lists (count_of c) (count_of d) ts us (counted s) (counted l))
@@ -105,6 +114,10 @@ counted (within.for p q r z {b} {ts} {us} {vs} {ws} {start} {step} {c} {t} {e} a
     subst (λ (l : ℕ). count_of (followed start (While t e step c Done)) ≤ suc (suc l)) (sym (for_length (at r signs.Semicolon) (at z signs.Close) ts us vs ws))
     (with_loop (count_of (followed start (While t e step c Done))) (count_of start) (count_of step) (count_of c) (length ts) (length us) (length vs) (length ws)
     (count-followed start (While t e step c Done)) (clause_counted a) (clause_counted d) (counted s))
+counted (within.declaring_for p q z {b} {ts} {ds} {us} {vs} {ws} {start} {step} {c} {t} {e} y l g d s) =
+    subst (λ (n : ℕ). suc (count_of (followed start (While t e step c Done)) + 0) ≤ suc (suc n)) (sym (declaring_length (at z signs.Close) ts ds us vs ws))
+    (with_declaration (count_of (followed start (While t e step c Done))) (count_of start) (count_of step) (count_of c) (length ts) (length ds) (length us) (length vs) (length ws)
+    (count-followed start (While t e step c Done)) (counted l) (clause_counted d) (counted s))
 counted (within.do_while p q r z t {b} {ts} {us} {x} {e} {c} s f) = with_one (count_of c) _ (then_some (count_of c) ts _ (counted s))
 counted (within.break p q) = one_of _
 counted (within.continue p q) = one_of _

@@ -23,6 +23,7 @@ use Rattle.cpp_lines.specs.Code.{code_of}
 use Rattle.cpp_lines.specs.Sections.{Told, TextIsRead}
 use Rattle.cpp_lines.specs.Whole.{blanked_file}
 use Rattle.family_names.specs.Names.{IsFirstNameFault}
+use Rattle.for_blocks.specs.Blocks.{unfolded}
 use Rattle.c_parser.specs.FamilyItems.{feature_names, family_listed}
 use Rattle.c_parser.specs.FamilyReading.{IsFamilyRefused, IsListedFamily, context_of, families_over}
 use Rattle.c_parser.specs.Functions.{own_functions}
@@ -50,7 +51,7 @@ abbrev IsFamilyListed : Dialect → Model → List ℕ → Listed → List Formu
 IsFamilyListed dialect model bytes l conditions atoms functions = IsListedFamily dialect (plain model) bytes l (record { formulas = conditions; atoms = atoms; functions = functions })
 
 abbrev Names : Model → Listed → List Formula → List Atom → List (List ℕ) → Option (FileCode × Place) → Type 0
-Names model l conditions atoms functions fault = IsFirstNameFault (context_of model atoms conditions l.names functions) l.items fault
+Names model l conditions atoms functions fault = IsFirstNameFault (context_of model atoms conditions l.names functions) (unfolded l.items) fault
 
 with_names : (dialect : Dialect) (model : Model) (bytes : List ℕ) (l : Listed) (conditions : List Formula) (atoms : List Atom) (functions : List (List ℕ)) (p : Whole) → IsFamilyListed dialect model bytes l conditions atoms functions → SpellsWithin l.names p l.items → (fault : Option (FileCode × Place)) → Names model l conditions atoms functions fault → HasAnswer dialect model bytes
 with_names dialect model bytes l conditions atoms functions p are s None n = accepted conditions atoms functions p (record { listed = l; are = are; spelled = s; names = n })
@@ -58,7 +59,7 @@ with_names dialect model bytes l conditions atoms functions p are s (Some fault)
 
 by_machine : PhaseLaws → (dialect : Dialect) (model : Model) (bytes : List ℕ) (l : Listed) (conditions : List Formula) (atoms : List Atom) (functions : List (List ℕ)) → IsFamilyListed dialect model bytes l conditions atoms functions → (g : Result File Fault) → guarded start 0 l.items ≡ g → HasAnswer dialect model bytes
 by_machine laws dialect model bytes l conditions atoms functions are (Ok f) e =
-    let n = laws.names (context_of model atoms conditions l.names functions) l.items in
+    let n = laws.names (context_of model atoms conditions l.names functions) (unfolded l.items) in
     with_names dialect model bytes l conditions atoms functions (whole_of l.names l.items f) are (record { file = f; forms = (laws.grammar.reads l.items f).0 e; is = refl }) n.0 n.1
 by_machine laws dialect model bytes l conditions atoms functions are (Err (limits.Wrong k)) e =
     let b = (laws.grammar.stops_wrong l.items k).0 e in

@@ -1,5 +1,5 @@
--- The names in scope behind statements of `main`, and the constants among them, are those before the statements and those that the grammar
--- declares in these, outside of blocks.
+-- The names in scope behind statements of `main` in which no `for` declares variables, and the constants among them, are those before the
+-- statements and those that the grammar declares in these, outside of blocks.
 use Rattle.std.proofs.Common.{◌≡◌, ℕ, Bool, true, false, List, [], ◌∷◌, ◌++◌, refl, sym, ap, ◌∙◌, append-nil}
 use Rattle.fam_outer.specs.declared.faults.Place.{Place}
 use Rattle.cpp_groups.specs.declared.section.Section.{Section}
@@ -18,6 +18,7 @@ use Rattle.c_grammar.specs.Scopes.{scoped_from, in_scope}
 use Rattle.c_grammar.proofs.Declaring.{declarations_more}
 use Rattle.c_grammar.proofs.Scoping.{main_among, names_more}
 use Rattle.c_grammar.proofs.ScopingBlocks.{IsBalanced, code_balanced, declarations_balanced, scoped_more}
+use Rattle.for_blocks.specs.Laws.{NoneDeclares}
 use Rattle.family_names.specs.AroundMain.{has_main}
 use Rattle.family_names.specs.Names.{sections_behind, in_scope_at, constants_at}
 use Rattle.family_names.proofs.Declared.{kept_append}
@@ -69,23 +70,23 @@ any_declaring a b (x ∷ xs) = first_declared a b x.sign x.place xs (any_declari
 
 -- ---- statements
 
-names_hold : (t : List Bool) (i : Bool) (before us : List Item) (c : Code) → (w : Writes (Listed i) us c) → BeginsInMain t before → in_scope_at t (before ++ us) ≡ in_scope_at t before ++ targets (holding t (scope_in [] w))
-names_hold t i before us c w begins =
+names_hold : (t : List Bool) (i : Bool) (before us : List Item) (c : Code) → (w : Writes (Listed i) us c) → NoneDeclares us → BeginsInMain t before → in_scope_at t (before ++ us) ≡ in_scope_at t before ++ targets (holding t (scope_in [] w))
+names_hold t i before us c w none begins =
     let secs : List Section = sections_behind t [] before in
     let held : List ℕ = targets (holding t (scope_in [] w)) in
     let here : kept_here t secs false us ≡ held =
-    ap (kept_here t secs false) (sym (append-nil us)) ∙ piece_holds t (piece_of [] w) secs (sym begins.kept) [] true refl ∙ append-nil held in
+    ap (kept_here t secs false) (sym (append-nil us)) ∙ piece_holds t (piece_of [] w none) secs (sym begins.kept) [] true refl ∙ append-nil held in
     scope_behind t before us begins.main (code_balanced w)
     ∙ ap (λ (b : Bool). in_scope_at t before ++ kept_here t secs b us) begins.free
     ∙ ap (λ (ns : List ℕ). in_scope_at t before ++ ns) here
 
-constants_hold : (t : List Bool) (i : Bool) (before us : List Item) (c : Code) → (w : Writes (Listed i) us c) → BeginsInMain t before → constants_at t (before ++ us) ≡ constants_at t before ++ targets (holding t (constant_scope_in [] w))
-constants_hold t i before us c w begins =
+constants_hold : (t : List Bool) (i : Bool) (before us : List Item) (c : Code) → (w : Writes (Listed i) us c) → NoneDeclares us → BeginsInMain t before → constants_at t (before ++ us) ≡ constants_at t before ++ targets (holding t (constant_scope_in [] w))
+constants_hold t i before us c w none begins =
     let secs : List Section = sections_behind t [] before in
     let held : List ℕ = targets (holding t (constant_scope_in [] w)) in
     let d : Bool = declares_behind (of_constants before) in
     let here : constants_here t secs false us ≡ held =
-    ap (constants_here t secs false) (sym (append-nil us)) ∙ constants_of_piece t (piece_of [] w) secs (sym begins.kept) [] true refl ∙ append-nil held in
+    ap (constants_here t secs false) (sym (append-nil us)) ∙ constants_of_piece t (piece_of [] w none) secs (sym begins.kept) [] true refl ∙ append-nil held in
     ap (in_scope_at t) (constants_append kinds.Variable before us)
     ∙ ap (λ (kind : NameKind). in_scope_at t (of_constants before ++ constants_from kind us)) begins.variable
     ∙ scope_behind t (of_constants before) (of_constants us) (from_main kinds.Variable before ∙ begins.main) (constants_balanced kinds.Variable us (code_balanced w))
@@ -94,4 +95,4 @@ constants_hold t i before us c w begins =
     ∙ ap (λ (ns : List ℕ). constants_at t before ++ ns) here
 
 pub inner_scopes_hold : InnerScopesHold
-inner_scopes_hold t i before us c w begins = record { names = names_hold t i before us c w begins; constants = constants_hold t i before us c w begins }
+inner_scopes_hold t i before us c w none begins = record { names = names_hold t i before us c w none begins; constants = constants_hold t i before us c w none begins }

@@ -30,6 +30,7 @@ use Rattle.c_grammar.specs.declared.items.Sign.{Sign}
 use Rattle.c_grammar.specs.declared.items.Sign.TheVariants as signs
 use Rattle.c_grammar.specs.Grammar.{at}
 use Rattle.c_grammar.specs.Within.{WithinIsFile}
+use Rattle.for_blocks.specs.Blocks.{unfolded}
 use Rattle.family_names.specs.Names.{NameContext, name_of, names_of, declared_by, is_among, is_feature, is_feature_name, is_value, is_used_behind, IsEither}
 use Rattle.family_names.proofs.Declared.{names_append, more_named, still_used, still_other}
 use Rattle.c_parser.specs.declared.family.Family.{Family}
@@ -42,6 +43,7 @@ use Rattle.c_parser.specs.Order.{arranged}
 use Rattle.c_parser.specs.Reading.{items_of_code}
 use Rattle.c_parser.proofs.AmongNumbers.{or_cases}
 use Rattle.c_parser.proofs.Arranging.{arranged_among}
+use Rattle.c_parser.proofs.BlockNames.{BlockLaws}
 use Rattle.c_parser.proofs.CodePieces.{lines_blank, same_length}
 use Rattle.c_parser.proofs.FamilyNames.{by_line_of}
 use Rattle.c_parser.proofs.KeptTexts.{TextLaws}
@@ -271,7 +273,7 @@ in_order : (all ns : List (List ℕ)) (ws : List (List ℕ)) → ((w : List ℕ)
 in_order all ns [] h k = tt
 in_order all ns (w ∷ ws) h k = (h w k.0, in_order all ns ws h k.1)
 
-module _ (laws : TextLaws) (is_file : WithinIsFile) (law : DeclarationsAreOfTheGrammar) (dialect : Dialect) (model : Model) (bytes : List ℕ) (f : Family) (o : IsFamilyOf dialect model bytes f) where
+module _ (laws : TextLaws) (blocks : BlockLaws) (is_file : WithinIsFile) (law : DeclarationsAreOfTheGrammar) (dialect : Dialect) (model : Model) (bytes : List ℕ) (f : Family) (o : IsFamilyOf dialect model bytes f) where
   abbrev list : Listed
   list = o.accepted.listed
 
@@ -326,13 +328,14 @@ module _ (laws : TextLaws) (is_file : WithinIsFile) (law : DeclarationsAreOfTheG
       let b = both in
       let link : (x : ℕ) → is_among x (names_of list.items) ≡ true → is_feature context x ≡ list_any (bytes_eq (get_or all x [])) features = λ x e.
       feature_at context x (subst (λ (ns : List (List ℕ)). x < length ns) (sym b.names) (b.below x e)) ∙ ap (λ (ns : List (List ℕ)). list_any (bytes_eq (get_or ns x [])) features) b.names in
-      ap (without_features features) (b.first ∙ ap (each_once []) (sym b.items)) ∙ told_all context features all [] list.items link (names_known context [] list.items o.accepted.names) refl
+      let told : AreTold features all (unfolded list.items) = told_all context features all [] (unfolded list.items) (λ x e. link x (ap (is_among x) (sym (blocks.names list.items)) ∙ e)) (names_known context [] (unfolded list.items) o.accepted.names) refl in
+      ap (without_features features) (b.first ∙ ap (each_once []) (sym b.items ∙ ap (names_at all) (sym (blocks.names list.items)))) ∙ told ∙ ap (once_at all) (blocks.declarations list.items)
 
-pub families_have_declared_names : TextLaws → WithinIsFile → DeclarationsAreOfTheGrammar → FamiliesHaveDeclaredNames
-families_have_declared_names laws is_file law dialect model bytes f o =
+pub families_have_declared_names : TextLaws → BlockLaws → WithinIsFile → DeclarationsAreOfTheGrammar → FamiliesHaveDeclaredNames
+families_have_declared_names laws blocks is_file law dialect model bytes f o =
     let l = o.accepted.listed in
     let spelled = is_file o.accepted.listed.names o.accepted.listed.items o.spelled o.accepted.spelled in
-    let b = both laws is_file law dialect model bytes f o in
+    let b = both laws blocks is_file law dialect model bytes f o in
     let named : (whole f.code).names ≡ o.accepted.listed.names = ap (λ (w : Whole). w.names) o.code ∙ ap (λ (w : Whole). w.names) o.accepted.spelled.is in
     subst (AreFamilyNames dialect (plain model) bytes) (sym named) (record {
       told = o.accepted.are.told;
@@ -340,7 +343,7 @@ families_have_declared_names laws is_file law dialect model bytes f o =
       items_are = o.accepted.are.items;
       file = spelled.file;
       forms = spelled.forms;
-      declared = declared_first laws is_file law dialect model bytes f o
+      declared = declared_first laws blocks is_file law dialect model bytes f o
           ∙ ap (λ (ns : List (List ℕ)). each_once [] (names_at ns (declared_by o.accepted.listed.items))) (sym b.names)
           ∙ ap (λ (ds : List ℕ). each_once [] (names_at o.accepted.listed.names ds)) (law o.accepted.listed.items spelled.file spelled.forms);
       are = b.names;

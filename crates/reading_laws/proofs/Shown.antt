@@ -22,11 +22,12 @@ use Rattle.c_grammar.specs.declared.items.Item.{Item}
 use Rattle.c_grammar.specs.declared.items.Sign.{Sign}
 use Rattle.c_grammar.specs.declared.items.Sign.TheVariants as signs
 use Rattle.c_grammar.specs.Constants.{AreApart}
-use Rattle.c_grammar.specs.Grammar.{is_group}
+use Rattle.c_grammar.specs.Grammar.{is_group, Forms}
 use Rattle.c_grammar.specs.Kept.{directive_of, kept_from, kept}
 use Rattle.c_grammar.specs.Locals.{is_in_own, is_open, AreOutside as StandOutside}
 use Rattle.c_grammar.specs.Scopes.{names_in_scope, names_taken, AreLevel, AreBeside}
-use Rattle.c_grammar.specs.Within.{SpellsWithin, KeepsWithin, WithinIsFile}
+use Rattle.c_grammar.specs.Within.{SpellsWithin, KeepsWithin}
+use Rattle.for_blocks.specs.Blocks.{unfolded}
 use Rattle.family_names.specs.Names as family
 use Rattle.family_names.specs.Names.{NameContext, has_main, in_scope_at, taken_at, is_among, is_kept, is_feature, is_used_behind, sections_behind, IsFirstNameFault}
 use Rattle.c_parser.specs.FamilyItems.{HasItems}
@@ -49,7 +50,7 @@ use Rattle.c_parser.proofs.KeptLocals.{beside_before, names_taken_kept}
 use Rattle.c_parser.proofs.KeptScopes.{level_before, names_in_scope_kept}
 use Rattle.c_parser.proofs.KeptTexts.{TextLaws, same_told, variant_items}
 use Rattle.c_parser.proofs.MainItems.{main_stays}
-use Rattle.c_parser.proofs.Projecting.{VariantsArePlain}
+use Rattle.c_parser.proofs.Projecting.{VariantsArePlain, LoopLaws}
 use Rattle.reading_laws.specs.Shown.{IsShown, UndeclaredNamesAreShown, SecondDeclarationsAreShown}
 use Rattle.reading_laws.proofs.Early.{is_of_name, TokensAreRead, early_other, wrong_other}
 use Rattle.reading_laws.proofs.Examples.{FirstAt, some_fault, find_first, is_there, names_for, functions_for, IsExample, name_used, name_again}
@@ -171,10 +172,10 @@ pub record ShownLaws : Type 0 where
   pub texts : TextLaws
   pub keeps : KeepsWithin
   pub plain_texts : VariantsArePlain
-  pub is_file : WithinIsFile
+  pub loops : LoopLaws
   pub tokens : TokensAreRead
 
--- the fault of a file is that of a name, behind all other phases
+-- the fault of a file is that of a name where loops that declare variables stand as blocks, behind all other phases
 record IsOfName (dialect : Dialect) (model : Model) (bytes : List ℕ) (fault : FileCode × Place) : Type 0 where
   told : Told
   listed : Listed
@@ -185,7 +186,7 @@ record IsOfName (dialect : Dialect) (model : Model) (bytes : List ℕ) (fault : 
   conditions : AreConditionsOf (plain model) told.conditions atoms formulas
   program : Whole
   spelled : SpellsWithin listed.names program listed.items
-  names : IsFirstNameFault (context_of model atoms formulas listed.names functions) listed.items (Some fault)
+  names : IsFirstNameFault (context_of model atoms formulas listed.names functions) (unfolded listed.items) (Some fault)
 
 both_ways : (code : FileCode) → is_of_name code ≡ true → is_of_name code ≡ false → ⊥
 both_ways code h k = let bad : true ≡ false = sym h ∙ k in cc
@@ -227,7 +228,7 @@ text_at laws dialect model bytes text fault values n q =
 
 variant_shows : ShownLaws → (dialect : Dialect) (model : Model) (bytes text : List ℕ) (fault : FileCode × Place) (values : List ℤ) (place : Place) (b : Bool) → (n : IsOfName dialect model bytes fault)
     → IsPreprocessed dialect (plain model) (truths_at values) bytes text → IsValid (plain model) values
-    → alone.first_name_fault (outer_at (context_of model n.atoms n.formulas n.listed.names n.functions) values) (kept (family.truths_at (context_of model n.atoms n.formulas n.listed.names n.functions) values) n.listed.items) ≡ Some (shown b, place) → IsShown dialect (plain model) bytes text values (shown b, place)
+    → alone.first_name_fault (outer_at (context_of model n.atoms n.formulas n.listed.names n.functions) values) (kept (family.truths_at (context_of model n.atoms n.formulas n.listed.names n.functions) values) (unfolded n.listed.items)) ≡ Some (shown b, place) → IsShown dialect (plain model) bytes text values (shown b, place)
 variant_shows laws dialect model bytes text fault values place b n q v e =
     let truths = family.truths_at (context_of model n.atoms n.formulas n.listed.names n.functions) values in
     let there = text_at laws dialect model bytes text fault values n q in
@@ -240,7 +241,7 @@ variant_shows laws dialect model bytes text fault values place b n q v e =
         listed = record { names = n.listed.names; items = kept truths n.listed.items };
         known = tt;
         are = variant_items laws.texts dialect (plain model) bytes text n.told n.listed truths n.items there (laws.plain_texts dialect (plain model) (λ conditions. truths) bytes text there) includes;
-        is = inr (inr (record { program = projected_program truths n.program; spelled = laws.keeps n.listed.names n.listed.items n.program truths n.spelled; names = e }));
+        is = inr (inr (record { program = projected_program truths n.program; spelled = laws.keeps n.listed.names n.listed.items n.program truths n.spelled; names = ap (alone.first_name_fault (outer_at (context_of model n.atoms n.formulas n.listed.names n.functions) values)) (sym (laws.loops.kept n.listed.items n.spelled.file truths n.spelled.forms)) ∙ e }));
       });
     }
 
@@ -249,19 +250,21 @@ variant_shows laws dialect model bytes text fault values place b n q v e =
 pub undeclared_names_are_shown : ShownLaws → UndeclaredNamesAreShown
 undeclared_names_are_shown laws dialect model bytes text values place r q =
     let n = of_name laws dialect model bytes (Undeclared (Some values), place) refl r in
-    let first = find_first (context_of model n.atoms n.formulas n.listed.names n.functions) [] n.listed.items (Undeclared (Some values)) place (λ e. cc) n.names refl in
+    let first = find_first (context_of model n.atoms n.formulas n.listed.names n.functions) [] (unfolded n.listed.items) (Undeclared (Some values)) place (λ e. cc) n.names refl in
     let example = name_used (context_of model n.atoms n.formulas n.listed.names n.functions) first.front first.item.sign values first.here in
-    let spelled = laws.is_file n.listed.names n.listed.items n.program n.spelled in
-    let main = main_stays (family.truths_at (context_of model n.atoms n.formulas n.listed.names n.functions) values) spelled.forms in
+    let blocks : List Item = unfolded n.listed.items in
+    let forms : Forms (unfolded n.listed.items) n.spelled.file = laws.loops.file n.listed.items n.spelled.file n.spelled.forms in
+    let main = main_stays (family.truths_at (context_of model n.atoms n.formulas n.listed.names n.functions) values) forms in
     variant_shows laws dialect model bytes text (Undeclared (Some values), place) values place true n q example.valid
-    (alone_at (context_of model n.atoms n.formulas n.listed.names n.functions) n.listed.items (Undeclared (Some values)) place values true (directives_apart n.listed.items spelled.file spelled.forms) (directives_outside n.listed.items spelled.file spelled.forms) (directives_level n.listed.items spelled.file spelled.forms) (directives_beside n.listed.items spelled.file spelled.forms) first example main)
+    (alone_at (context_of model n.atoms n.formulas n.listed.names n.functions) blocks (Undeclared (Some values)) place values true (directives_apart blocks n.spelled.file forms) (directives_outside blocks n.spelled.file forms) (directives_level blocks n.spelled.file forms) (directives_beside blocks n.spelled.file forms) first example main)
 
 pub second_declarations_are_shown : ShownLaws → SecondDeclarationsAreShown
 second_declarations_are_shown laws dialect model bytes text values place r q =
     let n = of_name laws dialect model bytes (Twice (Some values), place) refl r in
-    let first = find_first (context_of model n.atoms n.formulas n.listed.names n.functions) [] n.listed.items (Twice (Some values)) place (λ e. cc) n.names refl in
+    let first = find_first (context_of model n.atoms n.formulas n.listed.names n.functions) [] (unfolded n.listed.items) (Twice (Some values)) place (λ e. cc) n.names refl in
     let example = name_again (context_of model n.atoms n.formulas n.listed.names n.functions) first.front first.item.sign values first.here in
-    let spelled = laws.is_file n.listed.names n.listed.items n.program n.spelled in
-    let main = main_stays (family.truths_at (context_of model n.atoms n.formulas n.listed.names n.functions) values) spelled.forms in
+    let blocks : List Item = unfolded n.listed.items in
+    let forms : Forms (unfolded n.listed.items) n.spelled.file = laws.loops.file n.listed.items n.spelled.file n.spelled.forms in
+    let main = main_stays (family.truths_at (context_of model n.atoms n.formulas n.listed.names n.functions) values) forms in
     variant_shows laws dialect model bytes text (Twice (Some values), place) values place false n q example.valid
-    (alone_at (context_of model n.atoms n.formulas n.listed.names n.functions) n.listed.items (Twice (Some values)) place values false (directives_apart n.listed.items spelled.file spelled.forms) (directives_outside n.listed.items spelled.file spelled.forms) (directives_level n.listed.items spelled.file spelled.forms) (directives_beside n.listed.items spelled.file spelled.forms) first example main)
+    (alone_at (context_of model n.atoms n.formulas n.listed.names n.functions) blocks (Twice (Some values)) place values false (directives_apart blocks n.spelled.file forms) (directives_outside blocks n.spelled.file forms) (directives_level blocks n.spelled.file forms) (directives_beside blocks n.spelled.file forms) first example main)

@@ -15,6 +15,7 @@ use Rattle.c_grammar.specs.Constants.{kind_after}
 use Rattle.c_grammar.specs.Locals.{declares_behind, declared_by}
 use Rattle.c_grammar.specs.LocalsOf.{of_kind, scope_in, constant_scope_in, declared_in}
 use Rattle.c_tree.specs.Tree.{Code}
+use Rattle.for_blocks.specs.Laws.{NoneDeclares}
 use Rattle.family_names.specs.Names.{has_main, is_kept, in_scope_at, constants_at}
 use Rattle.c_parser.specs.declared.family.Family.{Family}
 use Rattle.c_parser.specs.FamilyItems.{HasItems, feature_names}
@@ -69,8 +70,10 @@ pub record HasInnerScope (truths : List Bool) (before : List Item) {i : Bool} {u
   pub names : in_scope_at truths (before ++ us) ≡ in_scope_at truths before ++ targets (holding truths (scope_in [] w))
   pub constants : constants_at truths (before ++ us) ≡ constants_at truths before ++ targets (holding truths (constant_scope_in [] w))
 
+-- so it is of statements in which no `for` declares variables. Where one does, their scope ends with it and at no brace (6.8.5p5); so the
+-- names of a file are judged where each such `for` stands as a block, and there none declares variables (`BlocksDeclareNone`)
 abbrev pub InnerScopesHold : Type 0
-InnerScopesHold = (truths : List Bool) (i : Bool) (before us : List Item) (c : Code) → (w : Writes (Listed i) us c) → BeginsInMain truths before → HasInnerScope truths before w
+InnerScopesHold = (truths : List Bool) (i : Bool) (before us : List Item) (c : Code) → (w : Writes (Listed i) us c) → NoneDeclares us → BeginsInMain truths before → HasInnerScope truths before w
 
 -- these names but for those of features
 abbrev pub without_features : List (List ℕ) → List (List ℕ) → List (List ℕ)

@@ -1,3 +1,4 @@
+use Rattle.c_parser.proofs.FamilyAnswers.{in_blocks}
 use Rattle.c_parser.proofs.KeptTexts.{TextLaws}
 use Rattle.c_parser.proofs.Projecting.{ProgramLaws, spelled, texts, declared, read, accepted}
 use Rattle.c_parser.proofs.variants.variants_are_projections.Goals as goal
@@ -27,7 +28,7 @@ returns-clause-read c =
       starts = c.values_are_starts.ensures;
       enough = c.conditions_are_enough.ensures;
     } in
-    read c.family_names_occur.ensures laws programs c.variants_are_plain.ensures
+    read (in_blocks c.names_stay.ensures.names c.family_names_occur.ensures) laws programs (record { file = c.blocks_form_the_file.ensures.file; kept = c.blocks_form_the_file.ensures.kept }) c.variants_are_plain.ensures
 
 pub returns-clause-accepted : goal.returns-clause-accepted
 returns-clause-accepted c = accepted c.texts_are_read_once.ensures

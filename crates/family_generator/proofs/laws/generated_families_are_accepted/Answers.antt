@@ -9,4 +9,5 @@ returns c model number code place =
       reads = c.reads_within_the_limits.ensures.file;
       stops_wrong = c.reads_within_the_limits.ensures.wrong;
       stops_deep = c.reads_within_the_limits.ensures.deep;
+      others = c.others_stay.ensures.items;
     }) model number (code, place)

@@ -1,0 +1,14 @@
+pub mod Ends
+pub mod Texts
+pub mod Others
+pub mod Pieces
+pub mod Passing
+pub mod Unfolding
+pub mod Calm
+pub mod Preprocessing
+pub mod Staying
+pub mod Forming
+pub mod Files
+pub mod Whole
+pub mod Examples
+pub mod NamesBehind

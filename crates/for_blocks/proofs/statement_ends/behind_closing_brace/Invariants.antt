@@ -1,0 +1,13 @@
+use Rattle.std.proofs.Common.{◌≡◌, ◌+◌, ◌≤◌, length}
+use Rattle.c_grammar.specs.Scopes.{inner_behind}
+use Rattle.for_blocks.specs.Blocks.{behind_closing}
+use Rattle.for_blocks.proofs.statement_ends.behind_closing_brace.Given as goal
+
+abbrev pub invariant-items : goal.invariant-items
+invariant-items l = record {
+  counted : l.depth + length l.rest ≤ length l.items;
+  behind : behind_closing inner_behind 0 l.items ≡ behind_closing inner_behind l.depth l.rest;
+}
+
+abbrev pub decreases-items : goal.decreases-items
+decreases-items l = length l.rest
