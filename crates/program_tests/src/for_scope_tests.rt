@@ -102,9 +102,9 @@ fn analyses_begin_with_the_block(rt: HostRuntime) -> Result<(), Fail> {
         ),
         (
             "analyse m f",
-            "int main(void){\nfor(int i=0;i<N;i++)\nassert(i!=3);\n}\n",
+            "int main(void){\nfor(int i=0;i<N;i++)\nassert(i!=6);\n}\n",
             1,
-            "3:1: assertion if N >= 4; example A=0 N=4\nalarms: 1\n",
+            "3:1: assertion if N >= 7; example A=0 N=7\nalarms: 1\n",
         ),
         (
             "analyse m f",
