@@ -17,8 +17,8 @@ use Rattle.item_reader.specs.declared.unread.Unread.TheVariants as unread
 use Rattle.fam_outer.specs.declared.refusal.Refusal.{Refusal}
 use Rattle.fam_outer.specs.declared.refusal.Refusal.TheVariants as refusal
 use Rattle.item_reader.specs.Reading.{IsDeepAt, IsWrongAt, OnDeep, OnWrong}
-use Rattle.item_reader.specs.Signs.{IsUnsigned}
-use Rattle.item_reader.specs.Taking.{AreUnsigned, AreItemsRead}
+use Rattle.reading_states.specs.Signs.{IsUnsigned, AreUnsigned}
+use Rattle.item_reader.specs.Taking.{AreItemsRead}
 
 unsigned_sign : (count : ℕ) (s : Sign) → IsFit count s → IsUnsigned s
 unsigned_sign count (signs.Number n) h = h.0

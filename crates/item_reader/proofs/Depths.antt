@@ -5,12 +5,12 @@ use Rattle.std.proofs.lemmas.Bool.Decides.{nat_tests}
 use Rattle.std.proofs.lemmas.List.{length-map, length-reverse, take_more}
 use Rattle.c_grammar.specs.Deep.{tail_depth}
 use Rattle.c_grammar.specs.Machine as machine
-use Rattle.item_reader.specs.declared.unfinished.Link.{Link}
-use Rattle.item_reader.specs.declared.states.Tailing.{Tailing}
-use Rattle.item_reader.specs.declared.states.Tailing.TheVariants as tailings
+use Rattle.reading_states.specs.declared.unfinished.Link.{Link}
+use Rattle.reading_states.specs.declared.states.Tailing.{Tailing}
+use Rattle.reading_states.specs.declared.states.Tailing.TheVariants as tailings
 use Rattle.item_reader.specs.Limits.{capped}
-use Rattle.item_reader.specs.Views.{as_link, as_links, as_tailing, as_parts}
-use Rattle.item_reader.proofs.Parts.{parts_more}
+use Rattle.reading_states.specs.Views.{as_link, as_links, as_tailing, as_parts}
+use Rattle.reading_states.proofs.Parts.{parts_more}
 
 pub links_length : (list : List Link) → length (as_links list) ≡ length list
 unfolding as_links

@@ -14,7 +14,8 @@ use Rattle.item_reader.specs.declared.unread.Unread.{Unread}
 use Rattle.item_reader.specs.declared.unread.Unread.TheVariants as unread
 use Rattle.fam_outer.specs.declared.refusal.Refusal.{Refusal}
 use Rattle.fam_outer.specs.declared.refusal.Refusal.TheVariants as refusal
-use Rattle.item_reader.specs.Taking.{AreUnsigned, IsTaken, IsTooMuch, StopsAt, Takes, AreItemsRead}
+use Rattle.reading_states.specs.Signs.{AreUnsigned}
+use Rattle.item_reader.specs.Taking.{IsTaken, IsTooMuch, StopsAt, Takes, AreItemsRead}
 
 or_right : (a b : Bool) → (a || b) ≡ false → b ≡ false
 or_right true b e = cc

@@ -1,5 +1,3 @@
-pub mod Views
-pub mod Signs
 pub mod Stages
 pub mod Limits
 pub mod Reading

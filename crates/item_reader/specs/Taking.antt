@@ -5,14 +5,13 @@ use Rattle.c_grammar.specs.Machine as machine
 use Rattle.c_grammar.specs.Machine.{start, step}
 use Rattle.c_grammar.specs.Deep as limits
 use Rattle.c_grammar.specs.Deep.{Fault, counted, is_deep, guarded}
-use Rattle.item_reader.specs.declared.states.ReadingState.{ReadingState}
-use Rattle.item_reader.specs.declared.states.File.{File}
+use Rattle.reading_states.specs.declared.states.ReadingState.{ReadingState}
+use Rattle.reading_states.specs.declared.states.File.{File}
 use Rattle.item_reader.specs.declared.unread.Unread.{Unread}
 use Rattle.item_reader.specs.declared.unread.Unread.TheVariants as unread
 use Rattle.fam_outer.specs.declared.refusal.Refusal.{Refusal}
 use Rattle.fam_outer.specs.declared.refusal.Refusal.TheVariants as refusal
-use Rattle.item_reader.specs.Signs.{IsUnsigned}
-use Rattle.item_reader.specs.Views.{as_file, as_state}
+use Rattle.reading_states.specs.Views.{as_file, as_state}
 
 -- the state behind an item, and the operators of its expression so far
 pub record IsTaken (state : machine.ReadingState) (count : ℕ) (x : Item) (next : machine.ReadingState) (operators : ℕ) : Type 0 where
@@ -46,8 +45,3 @@ AreItemsRead items (Ok file) = guarded start 0 items ≡ Ok (as_file file)
 AreItemsRead items (Err refusal.NoMemory) = Unit {0}
 AreItemsRead items (Err (refusal.Fault (unread.Wrong n))) = StopsAt items n limits.Wrong
 AreItemsRead items (Err (refusal.Fault (unread.Deep n))) = StopsAt items n limits.Deep
-
--- the numbers of the items are not negative
-abbrev pub AreUnsigned : List Item → Type 0
-AreUnsigned [] = Unit {0}
-AreUnsigned (x ∷ w) = IsUnsigned x.sign × AreUnsigned w

@@ -4,15 +4,15 @@
 ghost use Rattle.std.specs.Prelude.{◌≡◌, [], ◌∷◌, IfOk, MatchOption, option_map};
 ghost use Rattle.c_grammar.specs.Machine as machine;
 ghost use Rattle.c_grammar.specs.declared.items.Sign.TheVariants as signs;
-ghost use Rattle.item_reader.specs.Views.{as_file, as_parts, as_state, as_tailing, Moves};
+ghost use Rattle.reading_states.specs.Views.{as_file, as_parts, as_state, as_tailing, Moves};
 
-use crate::states::{File, ReadingState, Tailing};
 use c_grammar::Sign;
 use fam_outer::NoMemory;
+use reading_states::states::{File, ReadingState, Tailing};
 use std::alloc::Global;
 
 /// The innermost part, and the others.
-#[tactic(auto, using(crate::proofs::Parts::parts))]
+#[tactic(auto, using(reading_states::proofs::Parts::parts))]
 fn cut(parts: Vec<Tailing>) -> Option<(Tailing, Vec<Tailing>)>
     ensures { MatchOption result (as_parts parts.items ≡ [])
         (λ x. as_parts parts.items ≡ as_tailing x.0 ∷ as_parts x.1.items) }
@@ -23,7 +23,7 @@ fn cut(parts: Vec<Tailing>) -> Option<(Tailing, Vec<Tailing>)>
 }
 
 /// One more part, the innermost.
-#[tactic(auto, using(crate::proofs::Parts::parts))]
+#[tactic(auto, using(reading_states::proofs::Parts::parts))]
 fn put(parts: Vec<Tailing>, innermost: Tailing) -> Result<Vec<Tailing>, NoMemory>
     ensures { IfOk result (λ made. as_parts made.items ≡ as_tailing innermost ∷ as_parts parts.items) }
 {

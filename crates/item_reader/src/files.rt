@@ -2,16 +2,16 @@
 #![tactic(auto)]
 
 ghost use Rattle.std.specs.Prelude.{◌≤◌};
-ghost use Rattle.item_reader.specs.Signs.{IsUnsigned};
-ghost use Rattle.item_reader.specs.Taking.{AreUnsigned, AreItemsRead, Takes};
-ghost use Rattle.item_reader.specs.Views.{as_state};
+ghost use Rattle.reading_states.specs.Signs.{IsUnsigned, AreUnsigned};
+ghost use Rattle.item_reader.specs.Taking.{AreItemsRead, Takes};
+ghost use Rattle.reading_states.specs.Views.{as_state};
 
 use crate::endings::finish;
 use crate::limits::{counted, is_deep};
-use crate::states::{File, ReadingState, Sections};
 use crate::steps::step;
 use crate::unread::{Unread, UnreadRefusal};
 use c_grammar::Item;
+use reading_states::states::{File, ReadingState, Sections};
 use std::alloc::Global;
 
 /// What the item at a position leads to, and how many operators its expression has so far.

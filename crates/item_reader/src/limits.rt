@@ -6,12 +6,12 @@ ghost use Rattle.c_tree.specs.Tree.{Code};
 ghost use Rattle.c_grammar.specs.Machine as machine;
 ghost use Rattle.c_grammar.specs.Deep as limits;
 ghost use Rattle.item_reader.specs.Limits.{capped};
-ghost use Rattle.item_reader.specs.Views.{as_parts, as_sections, as_stack, as_state, as_tailing};
+ghost use Rattle.reading_states.specs.Views.{as_parts, as_sections, as_stack, as_state, as_tailing};
 
-use crate::states::{ReadingState, Sections, Tailing};
-use crate::unfinished::Stack;
 use c_grammar::Sign;
 use fam_outer::{MOST_NESTED, MOST_OPERATORS};
+use reading_states::states::{ReadingState, Sections, Tailing};
+use reading_states::unfinished::Stack;
 
 /// How many statements and groups are around what comes.
 #[tactic(auto, using(crate::proofs::Depths::links_length))]

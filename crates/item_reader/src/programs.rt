@@ -5,14 +5,14 @@ ghost use Rattle.std.specs.Prelude.{◌≡◌, IfOk};
 ghost use Rattle.c_tree.specs.View.{whole};
 ghost use Rattle.c_grammar.specs.Grammar as grammar;
 ghost use Rattle.c_grammar.specs.Grammar.{whole_of, zeros};
-ghost use Rattle.item_reader.specs.Taking.{AreUnsigned};
-ghost use Rattle.item_reader.specs.Views.{as_file};
+ghost use Rattle.reading_states.specs.Signs.{AreUnsigned};
+ghost use Rattle.reading_states.specs.Views.{as_file};
 
-use crate::states::File;
-use crate::static_variables::held_of;
 use c_grammar::{Item, Sign};
 use c_tree::{Declarations, Names, Program, start_values};
+use declaration_reader::static_variables::held_of;
 use fam_outer::{NoMemory, Values};
+use reading_states::states::File;
 use std::alloc::Global;
 
 /// Whether a sign is a group directive.

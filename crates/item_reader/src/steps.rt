@@ -4,33 +4,33 @@
 ghost use Rattle.std.specs.Prelude.{◌≡◌, ◌≤◌, option_map};
 ghost use Rattle.c_tree.specs.Tree as tree;
 ghost use Rattle.c_grammar.specs.Machine as machine;
-ghost use Rattle.item_reader.specs.Signs.{IsUnsigned};
+ghost use Rattle.reading_states.specs.Signs.{IsUnsigned};
 ghost use Rattle.item_reader.specs.Stages.{stage};
-ghost use Rattle.item_reader.specs.Views.{as_stack, as_state, Moves};
+ghost use Rattle.reading_states.specs.Views.{as_stack, as_state, Moves};
 
-use crate::declarations::{is_bare, listing, negating, started, starting};
-use crate::definitions::{
-    after_define, defining, enclosed, enclosing, negative_defining, negative_enclosing,
-};
 use crate::endings::over;
-use crate::expressions::{expected, have, want};
-use crate::for_headers::{start_comes, step_comes, test_comes};
-use crate::heads::{
-    after_enum, after_type, behind_extern, behind_static, behind_void, declaring, first_word,
-};
-use crate::jumps::redo_comes;
-use crate::locals::{const_word, finishing, local_named, local_type, next_local};
-use crate::marks::{at_close, at_function, at_open, at_semicolon, at_void};
-use crate::parameters::{after_parameters, in_parameters};
-use crate::sections::outside;
-use crate::statements::{begin, counting, named, on};
-use crate::states::ReadingState;
-use crate::statics::static_step;
-use crate::unfinished::{Pending, Site, Stack};
-use crate::words::Leading;
 use c_grammar::Sign;
 use c_tree::Stmt;
+use declaration_reader::declarations::{is_bare, listing, negating, started, starting};
+use declaration_reader::definitions::{
+    after_define, defining, enclosed, enclosing, negative_defining, negative_enclosing,
+};
+use declaration_reader::heads::{
+    after_enum, after_type, behind_extern, behind_static, behind_void, declaring, first_word,
+};
+use declaration_reader::parameters::{after_parameters, in_parameters};
+use declaration_reader::sections::outside;
 use fam_outer::{NoMemory, Place};
+use reading_states::marks::{at_close, at_function, at_open, at_semicolon, at_void};
+use reading_states::states::ReadingState;
+use reading_states::unfinished::{Pending, Site, Stack};
+use reading_states::words::Leading;
+use statement_reader::expressions::{expected, have, want};
+use statement_reader::for_headers::{start_comes, step_comes, test_comes};
+use statement_reader::jumps::redo_comes;
+use statement_reader::locals::{const_word, finishing, local_named, local_type, next_local};
+use statement_reader::statements::{begin, counting, named, on};
+use statement_reader::statics::static_step;
 use std::alloc::Global;
 
 /// What an item leads to, where the state can take it.
@@ -344,7 +344,7 @@ fn step_call(
 }
 
 /// The name of a function comes, whose call does nothing else.
-#[tactic(auto, using(crate::proofs::Holding::holding))]
+#[tactic(auto, using(reading_states::proofs::Holding::holding))]
 fn call_comes(place: Place, outer: Stack, sign: Sign) -> Option<ReadingState>
     ensures { option_map as_state result
         ≡ machine.at_function (machine.CallOpens

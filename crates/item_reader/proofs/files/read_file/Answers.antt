@@ -1,6 +1,6 @@
 use Rattle.std.proofs.Common.{Some, refl, arith}
 use Rattle.std.proofs.lemmas.Result.{err_from_is_err_and}
-use Rattle.item_reader.specs.Views.{as_file, as_state}
+use Rattle.reading_states.specs.Views.{as_file, as_state}
 use Rattle.item_reader.proofs.Taking.{stopped, moved_on, at_last, stops_at_end}
 use Rattle.item_reader.proofs.files.read_file.Goals as goal
 

@@ -1,4 +1,4 @@
-use Rattle.item_reader.specs.Views.{as_state}
+use Rattle.reading_states.specs.Views.{as_state}
 use Rattle.item_reader.proofs.Taking.{Stands}
 use Rattle.item_reader.proofs.files.read_file.Given as goal
 

@@ -1,7 +1,7 @@
 use Rattle.std.proofs.Common.{◌≡◌, take}
 use Rattle.c_grammar.specs.Deep.{tail_depth}
 use Rattle.item_reader.specs.Limits.{capped}
-use Rattle.item_reader.specs.Views.{as_parts}
+use Rattle.reading_states.specs.Views.{as_parts}
 use Rattle.item_reader.proofs.limits.tail_depth.Given as goal
 
 abbrev pub invariant-loop-part : goal.invariant-loop-part

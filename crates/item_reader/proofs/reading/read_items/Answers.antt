@@ -2,7 +2,7 @@ use Rattle.std.proofs.Common.{length}
 use Rattle.std.proofs.lemmas.Result.{err_from_is_err_and}
 use Rattle.c_tree.specs.View.{whole}
 use Rattle.c_grammar.specs.Within.{SpellsWithin}
-use Rattle.item_reader.specs.Views.{as_file}
+use Rattle.reading_states.specs.Views.{as_file}
 use Rattle.item_reader.proofs.Answering.{unsigned_items, spelled, formed, plain, wrong_there, deep_there}
 use Rattle.item_reader.proofs.reading.read_items.Goals as goal
 

@@ -1,8 +1,8 @@
 use Rattle.std.proofs.Common.{ℤ, w64, FitsSigned, subst, sym, rules}
 use Rattle.std.proofs.lemmas.Int.{to_z-of_z}
 use Rattle.c_grammar.specs.Machine as machine
-use Rattle.item_reader.specs.declared.states.ReadingState.{ReadingState}
-use Rattle.item_reader.specs.Views.{as_state, as_sections, Moves}
+use Rattle.reading_states.specs.declared.states.ReadingState.{ReadingState}
+use Rattle.reading_states.specs.Views.{as_state, as_sections, Moves}
 use Rattle.item_reader.proofs.steps.step_definition.Goals as goal
 
 pub returns-in-Enclosed : goal.returns-in-Enclosed

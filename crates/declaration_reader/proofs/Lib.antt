@@ -1,0 +1,3 @@
+pub mod MoreWords
+pub mod StaticItems
+pub mod Counted

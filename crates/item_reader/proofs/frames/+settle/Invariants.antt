@@ -1,5 +1,0 @@
-use Rattle.std.proofs.Common.{vec_len}
-use Rattle.item_reader.proofs.frames.+settle.Given as goal
-
-abbrev pub decreases-settle : goal.decreases-settle
-decreases-settle l = vec_len l.frames

@@ -1,5 +1,0 @@
-use Rattle.std.proofs.Common.{vec_len}
-use Rattle.item_reader.proofs.groups.+linked.Given as goal
-
-abbrev pub decreases-linked : goal.decreases-linked
-decreases-linked l = vec_len l.links

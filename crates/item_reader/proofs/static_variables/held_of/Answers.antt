@@ -1,7 +1,0 @@
-use Rattle.std.proofs.Common.{subst, sym}
-use Rattle.item_reader.specs.Taking.{AreUnsigned}
-use Rattle.item_reader.proofs.StaticItems.{unsigned_behind}
-use Rattle.item_reader.proofs.static_variables.held_of.Goals as goal
-
-pub with_statics-requires : goal.with_statics-requires
-with_statics-requires c = subst AreUnsigned (sym c.behind_main.ensures) (unsigned_behind c.args.items.now c.requires)

@@ -1,7 +1,0 @@
-use Rattle.std.proofs.Common.{sym, ◌∙◌}
-use Rattle.item_reader.specs.Views.{as_stack}
-use Rattle.item_reader.proofs.MoreWords.{no_static_const}
-use Rattle.item_reader.proofs.statics.behind_static_word.Goals as goal
-
-pub returns-in_default : goal.returns-in_default
-returns-in_default c = c.static_word.ensures ∙ sym (no_static_const (as_stack c.args.outer) c.args.sign c.in_default.not-Const)

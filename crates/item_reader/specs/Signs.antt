@@ -1,9 +1,0 @@
--- Signs whose numbers can be negated.
-use Rattle.std.specs.Prelude.{pos, ◌≤ℤ◌}
-use Rattle.c_grammar.specs.declared.items.Sign.{Sign}
-use Rattle.c_grammar.specs.declared.items.Sign.TheVariants as signs
-
--- a number is not negative
-abbrev pub IsUnsigned : Sign → Type 0
-IsUnsigned (signs.Number n) = pos 0 ≤ℤ n
-IsUnsigned _ = Unit {0}

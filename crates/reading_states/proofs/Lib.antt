@@ -1,0 +1,3 @@
+pub mod Innermost
+pub mod Holding
+pub mod Parts

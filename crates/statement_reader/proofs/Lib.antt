@@ -1,0 +1,3 @@
+pub mod NoElse
+pub mod Clauses
+pub mod MoreWords
