@@ -120,7 +120,7 @@ fn behind_local_type(
 }
 
 /// Another word of the type, or what follows it.
-#[tactic(auto, using(declaration_reader::proofs::MoreWords::second_local_word, declaration_reader::proofs::MoreWords::no_second_local_word))]
+#[tactic(auto, using(crate::proofs::MoreWords::second_local_word, crate::proofs::MoreWords::no_second_local_word))]
 pub fn local_type(
     kind: Qualifier,
     scope: Scope,

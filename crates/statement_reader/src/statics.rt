@@ -93,7 +93,7 @@ fn behind_static_type(kind: Qualifier, outer: Stack, sign: Sign) -> Option<Readi
 }
 
 /// Another word of the type, or what follows it.
-#[tactic(auto, using(declaration_reader::proofs::MoreWords::second_static_word, declaration_reader::proofs::MoreWords::no_second_static_word))]
+#[tactic(auto, using(crate::proofs::MoreWords::second_static_word, crate::proofs::MoreWords::no_second_static_word))]
 fn static_type(kind: Qualifier, outer: Stack, sign: Sign, words: TypeWords) -> Option<ReadingState>
     ensures { option_map as_state result
         ≡ machine.static_type (as_qualifier kind) (as_stack outer) sign (as_words words) }
