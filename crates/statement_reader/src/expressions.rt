@@ -26,8 +26,13 @@ fn waiting(
     ensures { Moves result (Some (machine.Wants (as_frame frame ∷ as_frames frames.items)
         (as_purpose purpose))) }
 {
-    let frames = with_frame(frames, frame)?;
-    Ok(Some(ReadingState::Wants { frames, purpose }))
+    match with_frame(frames, frame) {
+        Ok(frames) => Ok(Some(ReadingState::Wants { frames, purpose })),
+        Err(memory) => {
+            drop(purpose);
+            Err(memory)
+        }
+    }
 }
 
 /// An expression comes.
@@ -46,7 +51,10 @@ fn input_of(mut frames: Vec<Frame>, purpose: Purpose) -> Option<ReadingState>
 {
     match take_frame(&mut frames) {
         None => input_for(purpose),
-        Some(_) => None,
+        Some(_) => {
+            drop(purpose);
+            None
+        }
     }
 }
 
@@ -73,7 +81,10 @@ pub fn want(
         Sign::Bang => waiting(frames, Frame::Pre(Prefix::Inverse), purpose),
         Sign::Oper(op) => prefixed(frames, purpose, op),
         Sign::Input | Sign::Function(_) => Ok(input_of(frames, purpose)),
-        _ => Ok(None),
+        _ => {
+            drop(purpose);
+            Ok(None)
+        }
     }
 }
 
@@ -83,7 +94,10 @@ fn prefixed(frames: Vec<Frame>, purpose: Purpose, op: Op) -> Result<Option<Readi
 {
     match prefix_of(op) {
         Some(prefix) => waiting(frames, Frame::Pre(prefix), purpose),
-        None => Ok(None),
+        None => {
+            drop(purpose);
+            Ok(None)
+        }
     }
 }
 
@@ -103,7 +117,10 @@ fn closed_by(
             purpose,
             operand,
         })),
-        Some(Frame::Pre(_)) | Some(Frame::Left(_, _)) => Ok(None),
+        Some(Frame::Pre(_)) | Some(Frame::Left(_, _)) => {
+            drop(purpose);
+            Ok(None)
+        }
     }
 }
 
@@ -118,7 +135,10 @@ fn ended_by(
 {
     match take_frame(&mut frames) {
         None => assigned(alloc, purpose, operand),
-        Some(_) => Ok(None),
+        Some(_) => {
+            drop(purpose);
+            Ok(None)
+        }
     }
 }
 
@@ -133,7 +153,10 @@ fn followed_by(
 {
     match take_frame(&mut frames) {
         None => initialised(alloc, purpose, operand),
-        Some(_) => Ok(None),
+        Some(_) => {
+            drop(purpose);
+            Ok(None)
+        }
     }
 }
 
@@ -147,8 +170,13 @@ fn closed(
     ensures { Moves result (machine.have (as_frames frames.items) (as_purpose purpose)
         (term operand) signs.Close) }
 {
-    let (frames, operand) = settle(alloc, 6, frames, operand)?;
-    closed_by(alloc, frames, purpose, operand)
+    match settle(alloc, 6, frames, operand) {
+        Ok((frames, operand)) => closed_by(alloc, frames, purpose, operand),
+        Err(memory) => {
+            drop(purpose);
+            Err(memory)
+        }
+    }
 }
 
 /// A semicolon behind an operand.
@@ -161,8 +189,13 @@ fn ended(
     ensures { Moves result (machine.have (as_frames frames.items) (as_purpose purpose)
         (term operand) signs.Semicolon) }
 {
-    let (frames, operand) = settle(alloc, 6, frames, operand)?;
-    ended_by(alloc, frames, purpose, operand)
+    match settle(alloc, 6, frames, operand) {
+        Ok((frames, operand)) => ended_by(alloc, frames, purpose, operand),
+        Err(memory) => {
+            drop(purpose);
+            Err(memory)
+        }
+    }
 }
 
 /// A comma behind an operand.
@@ -175,8 +208,13 @@ fn followed(
     ensures { Moves result (machine.have (as_frames frames.items) (as_purpose purpose)
         (term operand) signs.Comma) }
 {
-    let (frames, operand) = settle(alloc, 6, frames, operand)?;
-    followed_by(alloc, frames, purpose, operand)
+    match settle(alloc, 6, frames, operand) {
+        Ok((frames, operand)) => followed_by(alloc, frames, purpose, operand),
+        Err(memory) => {
+            drop(purpose);
+            Err(memory)
+        }
+    }
 }
 
 /// An operator behind an operand.
@@ -190,8 +228,13 @@ fn operated(
     ensures { Moves result (machine.have (as_frames frames.items) (as_purpose purpose) (term operand)
         (signs.Oper op)) }
 {
-    let (frames, left) = settle(alloc, tighter(op) + 1, frames, operand)?;
-    waiting(frames, Frame::Left(op, left), purpose)
+    match settle(alloc, tighter(op) + 1, frames, operand) {
+        Ok((frames, left)) => waiting(frames, Frame::Left(op, left), purpose),
+        Err(memory) => {
+            drop(purpose);
+            Err(memory)
+        }
+    }
 }
 
 /// What a sign leads to behind an operand.
@@ -209,6 +252,9 @@ pub fn have(
         Sign::Oper(op) => operated(alloc, frames, purpose, operand, op),
         Sign::Semicolon => ended(alloc, frames, purpose, operand),
         Sign::Comma => followed(alloc, frames, purpose, operand),
-        _ => Ok(None),
+        _ => {
+            drop(purpose);
+            Ok(None)
+        }
     }
 }

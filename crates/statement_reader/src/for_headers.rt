@@ -33,7 +33,10 @@ fn changing(site: Site, place: Place, sign: Sign) -> Option<ReadingState>
         }
         Sign::PlusPlus => Count::Raise,
         Sign::MinusMinus => Count::Lower,
-        _ => return None,
+        _ => {
+            drop(site);
+            return None;
+        }
     };
     Some(ReadingState::Counting { place, count, site })
 }

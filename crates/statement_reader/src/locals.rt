@@ -65,7 +65,10 @@ pub fn const_word(scope: Scope, sign: Sign) -> Option<ReadingState>
         Sign::Int => TypeWords::OneInt,
         Sign::Int32 => TypeWords::WholeType,
         Sign::Signed => TypeWords::OneSigned,
-        _ => return None,
+        _ => {
+            drop(scope);
+            return None;
+        }
     };
     Some(ReadingState::LocalType {
         kind: Qualifier::Constant,
@@ -85,7 +88,10 @@ pub fn next_local(kind: Qualifier, scope: Scope, place: Place, sign: Sign) -> Op
             target,
             scope,
         }),
-        _ => None,
+        _ => {
+            drop(scope);
+            None
+        }
     }
 }
 
@@ -162,7 +168,10 @@ fn local_end(
             let scope = with_declarator(alloc, scope, statement)?;
             Ok(Some(ReadingState::NextLocal { kind, scope }))
         }
-        _ => Ok(None),
+        _ => {
+            drop(scope);
+            Ok(None)
+        }
     }
 }
 

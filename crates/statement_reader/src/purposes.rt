@@ -40,13 +40,10 @@ pub fn input_for(purpose: Purpose) -> Option<ReadingState>
             scope,
             statement: Stmt::Input { place, target },
         },
-        Purpose::ToUpdate { .. }
-        | Purpose::ToAssert { .. }
-        | Purpose::ToChoose { .. }
-        | Purpose::ToLoop { .. }
-        | Purpose::ToRepeat { .. }
-        | Purpose::ToRedo { .. }
-        | Purpose::ToReturn { .. } => return None,
+        refused => {
+            drop(refused);
+            return None;
+        }
     };
     Some(ReadingState::CallOpens { pending })
 }
@@ -116,7 +113,13 @@ pub fn tested(alloc: Global, purpose: Purpose, test: Expr) -> Result<Option<Read
             target,
             update,
             site,
-        } => closed_change(alloc, site, updated(alloc, place, target, update, test)?),
+        } => match updated(alloc, place, target, update, test) {
+            Ok(statement) => closed_change(alloc, site, statement),
+            Err(memory) => {
+                drop(site);
+                Err(memory)
+            }
+        },
         Purpose::ToAssert { place, outer } => Ok(Some(asserted(place, test, outer))),
         Purpose::ToChoose { place, outer } => chosen(alloc, place, test, outer),
         Purpose::ToLoop { place, outer } => looped(alloc, place, test, outer),
@@ -126,7 +129,8 @@ pub fn tested(alloc: Global, purpose: Purpose, test: Expr) -> Result<Option<Read
             test_place,
             outer,
         } => Ok(Some(redone(place, body, test_place, test, outer))),
-        Purpose::ToInitialise { .. } | Purpose::ToRepeat { .. } | Purpose::ToReturn { .. } => {
+        refused => {
+            drop(refused);
             Ok(None)
         }
     }
@@ -174,7 +178,13 @@ pub fn assigned(
             target,
             update,
             site,
-        } => ended_change(alloc, site, updated(alloc, place, target, update, value)?),
+        } => match updated(alloc, place, target, update, value) {
+            Ok(statement) => ended_change(alloc, site, statement),
+            Err(memory) => {
+                drop(site);
+                Err(memory)
+            }
+        },
         Purpose::ToRepeat {
             start,
             place,
@@ -186,10 +196,10 @@ pub fn assigned(
             outer,
         })),
         Purpose::ToReturn { place, outer } => Ok(Some(returned(place, value, outer))),
-        Purpose::ToAssert { .. }
-        | Purpose::ToChoose { .. }
-        | Purpose::ToLoop { .. }
-        | Purpose::ToRedo { .. } => Ok(None),
+        refused => {
+            drop(refused);
+            Ok(None)
+        }
     }
 }
 
@@ -211,13 +221,9 @@ pub fn initialised(
             let scope = with_local(alloc, place, target, value, scope)?;
             Ok(Some(ReadingState::NextLocal { kind, scope }))
         }
-        Purpose::ToAssign { .. }
-        | Purpose::ToUpdate { .. }
-        | Purpose::ToAssert { .. }
-        | Purpose::ToChoose { .. }
-        | Purpose::ToLoop { .. }
-        | Purpose::ToRepeat { .. }
-        | Purpose::ToRedo { .. }
-        | Purpose::ToReturn { .. } => Ok(None),
+        refused => {
+            drop(refused);
+            Ok(None)
+        }
     }
 }

@@ -205,9 +205,16 @@ fn changed(
     ensures { Moves result (Some (machine.Finishing (machine.OfStatement (as_site site)
         (grammar.changed_by_one place target (as_count count))))) }
 {
-    let statement = changed_by_one(alloc, place, target, count)?;
-    let pending = Pending::OfStatement { site, statement };
-    Ok(Some(ReadingState::Finishing { pending }))
+    match changed_by_one(alloc, place, target, count) {
+        Ok(statement) => {
+            let pending = Pending::OfStatement { site, statement };
+            Ok(Some(ReadingState::Finishing { pending }))
+        }
+        Err(memory) => {
+            drop(site);
+            Err(memory)
+        }
+    }
 }
 
 /// What a sign leads to behind `++` or `--` at the front of a change.
@@ -222,7 +229,10 @@ pub fn counting(
 {
     match sign {
         Sign::Name(target) => changed(alloc, place, target, count, site),
-        _ => Ok(None),
+        _ => {
+            drop(site);
+            Ok(None)
+        }
     }
 }
 
@@ -266,7 +276,10 @@ pub fn named(
         Sign::StarEquals => Update::Product,
         Sign::SlashEquals => Update::Quotient,
         Sign::PercentEquals => Update::Remainder,
-        _ => return Ok(None),
+        _ => {
+            drop(site);
+            return Ok(None);
+        }
     };
     Ok(Some(updating(alloc, place, target, update, site)))
 }
