@@ -120,6 +120,9 @@ pub(crate) fn finish(state: ReadingState) -> Option<File>
             None => Some(file),
             Some(_open) => None,
         },
-        _other => None,
+        other => {
+            drop(other);
+            None
+        }
     }
 }

@@ -31,7 +31,10 @@ fn take(
     let operators = counted(&state, item.sign, count);
     match step(alloc, state, item.place, item.sign)? {
         None => Err(UnreadRefusal::Fault(Unread::Wrong(position))),
-        Some(_next) if deep => Err(UnreadRefusal::Fault(Unread::Deep(position))),
+        Some(next) if deep => {
+            drop(next);
+            Err(UnreadRefusal::Fault(Unread::Deep(position)))
+        }
         Some(next) => Ok((next, operators)),
     }
 }

@@ -376,6 +376,9 @@ fn step_edge(
         )),
         ReadingState::AfterParameters { aim } => Ok(after_parameters(alloc, aim, sign)),
         ReadingState::Over { file, parts } => over(alloc, file, parts, sign),
-        _other => Ok(None),
+        other => {
+            drop(other);
+            Ok(None)
+        }
     }
 }
